@@ -1,1 +1,4 @@
 -- The abstract machine: what the tree is, what each call does, and what a crash may leave.
+pub mod Names
+pub mod Content
+pub mod Tree
