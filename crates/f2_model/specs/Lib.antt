@@ -2,3 +2,5 @@
 pub mod Names
 pub mod Content
 pub mod Tree
+pub mod Count
+pub mod Call

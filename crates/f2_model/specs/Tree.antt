@@ -11,8 +11,8 @@ use Rattle.f2_model.specs.Content.{PAGE}
 use Rattle.f2_model.specs.declared.rows.Row.{Row}
 use Rattle.f2_model.specs.declared.rows.Kind.{Kind}
 use Rattle.f2_model.specs.declared.rows.Kind.TheVariants.{Regular, Directory}
-use Rattle.f2_model.specs.declared.replies.Outcome.{Outcome}
-use Rattle.f2_model.specs.declared.replies.Outcome.TheVariants.{NoEnt, NotDir}
+use Rattle.f2_model.specs.declared.replies.Reply.{Reply}
+use Rattle.f2_model.specs.declared.replies.Reply.TheVariants.{NoEnt, NotDir}
 
 -- rows by their inos
 abbrev pub Rows : Type 0
@@ -47,17 +47,17 @@ abbrev pub is_in : ℕ → Row → Bool
 is_in directory row = list_any (λ at. at.0 == directory) (names_of row)
 
 -- a row that has to be there goes on, and else the path has no entry
-abbrev pub or_no_entry : Option Row → (Row → Result Row Outcome) → Result Row Outcome
+abbrev pub or_no_entry : Option Row → (Row → Result Row Reply) → Result Row Reply
 or_no_entry None next = Err NoEnt
 or_no_entry (Some row) next = next row
 
 -- where names lead from a row: to the row at their end, or to the first refusal on the way
-abbrev pub walked : Rows → List (List ℕ) → Row → Result Row Outcome
+abbrev pub walked : Rows → List (List ℕ) → Row → Result Row Reply
 walked tree [] row = Ok row
 walked tree (name ∷ names) row = if is_directory row.kind then or_no_entry (child tree row.ino name) (walked tree names) else Err NotDir
 
 -- where a path leads from the root
-abbrev pub walk : Rows → List (List ℕ) → Result Row Outcome
+abbrev pub walk : Rows → List (List ℕ) → Result Row Reply
 walk tree path = or_no_entry (map.get tree ROOT) (walked tree path)
 
 -- the path of the directory that a path's last name stands in, and that name
