@@ -8,3 +8,4 @@ pub mod State
 pub mod Fallback
 pub mod Step
 pub mod Run
+pub mod History
