@@ -1,1 +1,6 @@
 -- The abstract machine: what the tree is, what each call does, and what a crash may leave.
+pub mod Names
+pub mod Content
+pub mod Tree
+pub mod Count
+pub mod Call
