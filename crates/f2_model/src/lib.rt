@@ -3,7 +3,9 @@
 
 mod histories;
 mod lists;
+mod names;
 mod page_maps;
+mod paths;
 mod replies;
 mod requests;
 mod rows;
