@@ -125,8 +125,8 @@ module _ {A X : Type 0} (es : List (ℕ × A)) (f : A → X) (m : FinMap nat_cmp
   shown_seen-retain_keys fs p h =
       let alike : (q x : ℕ) → nat_cmp q x ≡ Equal → p x ≡ p q = λ q x t. ap p (sym (nat_cmp-IsAntisymmetric q x t)) in
       same_map nat_cmp_total nat_cmp-IsAntisymmetric _ _ (λ q.
-          get-from_entries nat_cmp_total (shown f fs) q
-          ∙ ap (find nat_cmp q) (ap (shown f) h ∙ shown-where_key f p es)
-          ∙ find-where_key nat_cmp p q (alike q) (shown f es)
-          ∙ ap (λ o. cond (p q) o None) (sym (lookup-find q (shown f es)) ∙ lookup-seen (shown f es) m seen q)
-          ∙ sym (get-retain_keys m p q (alike q)))
+      get-from_entries nat_cmp_total (shown f fs) q
+      ∙ ap (find nat_cmp q) (ap (shown f) h ∙ shown-where_key f p es)
+      ∙ find-where_key nat_cmp p q (alike q) (shown f es)
+      ∙ ap (λ o. cond (p q) o None) (sym (lookup-find q (shown f es)) ∙ lookup-seen (shown f es) m seen q)
+      ∙ sym (get-retain_keys m p q (alike q)))
