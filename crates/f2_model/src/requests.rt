@@ -50,43 +50,31 @@ impl Request {
     pub fn copy(&self, alloc: Global) -> Result<Request, AllocError>
         ensures { IfOk result (λ request. request ≡ self.now) }
     {
-        Ok(match self {
-            Request::Create { path } => Request::Create {
-                path: path.copy(alloc)?,
-            },
-            Request::Mkdir { path } => Request::Mkdir {
-                path: path.copy(alloc)?,
-            },
-            Request::Write { path, pieces } => Request::Write {
+        match self {
+            Request::Create { path } => path.copy(alloc).map(|path| Request::Create { path }),
+            Request::Mkdir { path } => path.copy(alloc).map(|path| Request::Mkdir { path }),
+            Request::Write { path, pieces } => Ok(Request::Write {
                 path: path.copy(alloc)?,
                 pieces: Items::from_slice(alloc, pieces.as_slice())?,
-            },
-            Request::Truncate { path, size } => Request::Truncate {
+            }),
+            Request::Truncate { path, size } => Ok(Request::Truncate {
                 path: path.copy(alloc)?,
                 size: *size,
-            },
-            Request::Unlink { path } => Request::Unlink {
-                path: path.copy(alloc)?,
-            },
-            Request::Rmdir { path } => Request::Rmdir {
-                path: path.copy(alloc)?,
-            },
-            Request::Rename { from, to } => Request::Rename {
+            }),
+            Request::Unlink { path } => path.copy(alloc).map(|path| Request::Unlink { path }),
+            Request::Rmdir { path } => path.copy(alloc).map(|path| Request::Rmdir { path }),
+            Request::Rename { from, to } => Ok(Request::Rename {
                 from: from.copy(alloc)?,
                 to: to.copy(alloc)?,
-            },
-            Request::Read { path, off, len } => Request::Read {
+            }),
+            Request::Read { path, off, len } => Ok(Request::Read {
                 path: path.copy(alloc)?,
                 off: *off,
                 len: *len,
-            },
-            Request::List { path } => Request::List {
-                path: path.copy(alloc)?,
-            },
-            Request::Fsync { path } => Request::Fsync {
-                path: path.copy(alloc)?,
-            },
-            Request::Sync => Request::Sync,
-        })
+            }),
+            Request::List { path } => path.copy(alloc).map(|path| Request::List { path }),
+            Request::Fsync { path } => path.copy(alloc).map(|path| Request::Fsync { path }),
+            Request::Sync => Ok(Request::Sync),
+        }
     }
 }
