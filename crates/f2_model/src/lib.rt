@@ -1,4 +1,13 @@
 //! The file tree of a volume, the calls on it, and the history of what was answered.
+//!
+//! The layers above hold these values and speak of them in their contracts: a [`Tree`] is the map
+//! from inos to rows, [`Pages`] the map from page numbers to contents, a list of [`Items`] the list
+//! of its members, and a [`Log`] the entries and choices of a history with its spare room. A call
+//! that is refused memory leaves its value as it was; `Log::add` takes none, since `Log::room` took
+//! it before.
+//!
+//! What a call does to a tree, which steps a volume may take, and what a crash may leave is defined
+//! in `specs/`: `Names`, `Content`, `Tree`, `Call`, `State`, `Fallback`, `Step`, `Run`, `History`.
 #![tactic(auto)]
 
 mod bounds;
@@ -10,6 +19,8 @@ mod paths;
 mod replies;
 mod requests;
 mod rows;
+#[cfg(test)]
+mod tests;
 mod trees;
 
 pub use bounds::Limits;
