@@ -6,8 +6,11 @@
 #![tactic(auto)]
 
 mod grammar;
+mod laws;
+mod paths;
 mod script;
 mod words;
 
 pub use grammar::parse;
+pub use laws::{one_fault, one_reading, reads_back};
 pub use script::{Grammar, Line, Lines, ScriptFault};
