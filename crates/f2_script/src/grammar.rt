@@ -2,6 +2,8 @@
 ghost use Rattle.std.specs.Prelude.{◌≡◌, true, ◌∷◌, ◌++◌, [], ◌<◌, ◌⊎◌, ◌↔◌, ℕ, List, length, codes, IfOk, IfSome, MatchOption, IsErrOf};
 ghost use Rattle.f2_script.specs.Cuts.{Finds};
 ghost use Rattle.f2_script.specs.Grammar.{lines_of, IsTooLong, IsRequestText, IsLine, IsLineHere, MayStand, Spells, IsFirstFault};
+ghost use Rattle.f2_script.specs.Faults.{UnlessMemory};
+ghost use Rattle.f2_script.specs.declared.script.Line.{Line};
 
 use crate::paths::path_of;
 use crate::script::{Grammar, Line, Lines, ScriptFault};
@@ -159,6 +161,13 @@ fn read_lines(alloc: Global, bytes: &[u8], grammar: Grammar) -> Result<Lines, Sc
     Ok(lines)
 }
 
+/// Whether there are more bytes or more lines than a script may have.
+fn is_too_long(bytes: &[u8]) -> bool
+    ensures { (result ≡ true) ↔ IsTooLong bytes.now }
+{
+    bytes.len() > MOST_BYTES || line_count(bytes) > MOST_LINES
+}
+
 /// The lines that the bytes of a script are.
 ///
 /// A script is first measured, and then read to the first line that isn't in the grammar at its place.
@@ -167,8 +176,12 @@ pub fn parse(alloc: Global, bytes: &[u8], grammar: Grammar) -> Result<Lines, Scr
     ensures ok { IfOk result (Spells grammar bytes.now) }
     ensures too_long { IsErrOf result ScriptFault.TooLong ↔ IsTooLong bytes.now }
     ensures line { (n : ℕ) → IsErrOf result (ScriptFault.Line n) → IsFirstFault grammar bytes.now n }
+
+    // Unless memory is refused, a script that isn't too long is read, or its first fault is named.
+    ensures read { (lines : List Line) → ¬ (IsTooLong bytes.now) → Spells grammar bytes.now lines → UnlessMemory result (Ok lines) }
+    ensures fault { (n : ℕ) → ¬ (IsTooLong bytes.now) → IsFirstFault grammar bytes.now n → UnlessMemory result (Err (ScriptFault.Line n)) }
 {
-    if bytes.len() > MOST_BYTES || line_count(bytes) > MOST_LINES {
+    if is_too_long(bytes) {
         return Err(ScriptFault::TooLong);
     }
     read_lines(alloc, bytes, grammar)
