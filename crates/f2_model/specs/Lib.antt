@@ -4,3 +4,8 @@ pub mod Content
 pub mod Tree
 pub mod Count
 pub mod Call
+pub mod State
+pub mod Fallback
+pub mod Step
+pub mod Run
+pub mod History

@@ -1,4 +1,6 @@
 //! The history of a volume.
+ghost use Rattle.std.specs.Prelude.{◌≡◌, ◌+◌, ◌<◌, [], ◌∷◌, ◌++◌, length, max, option_to_list, slice_get, OnOk, OnErr};
+
 use crate::replies::{Outcome, Plan};
 use crate::requests::Request;
 use std::alloc::{AllocError, Global};
@@ -84,4 +86,79 @@ pub enum Entry {
 pub struct Log {
     entries: Vec<Entry>,
     choices: Vec<u32>,
+    /// For how many further entries both lists have room.
+    spare: u32,
+}
+
+impl Model for Log {
+    ghost use Rattle.std.specs.Prelude.{◌+◌, ◌≤◌, vec_len, vec_capacity};
+    ghost use Rattle.f2_model.specs.History.{History};
+
+    ghost Value = { History };
+
+    ghost view = { λ l. record { entries = l.entries.items; choices = l.choices.items; spare = l.spare } };
+
+    ghost invariant = { λ l. (vec_len l.entries + l.spare ≤ vec_capacity l.entries) × (vec_len l.choices + l.spare ≤ vec_capacity l.choices) };
+}
+
+impl Log {
+    /// The empty history, which takes no memory and has no room yet.
+    pub fn new(alloc: Global) -> Log
+        ensures { result ≡ record { entries = []; choices = []; spare = 0 } }
+    {
+        Log {
+            entries: Vec::new(alloc),
+            choices: Vec::new(alloc),
+            spare: 0,
+        }
+    }
+
+    /// For how many further entries there is room.
+    pub fn spare(&self) -> u32
+        ensures { result ≡ self.now.spare }
+    {
+        self.spare
+    }
+
+    /// Makes room for at least `n` further entries. Where memory is refused the room stays as it was.
+    pub fn room(&mut self, n: u32) -> Result<(), AllocError>
+        ensures ok { OnOk result (self.new ≡ record self.old { spare = max self.old.spare n }) }
+        ensures err { OnErr result (self.new ≡ self.old) }
+    {
+        if n > self.spare {
+            self.entries.reserve(n as usize)?;
+            self.choices.reserve(n as usize)?;
+            self.spare = n;
+        }
+        Ok(())
+    }
+
+    /// Appends an entry and, where there is one, the choice that it rests on. It takes no memory.
+    pub fn add(&mut self, entry: Entry, choice: Option<u32>)
+        requires { 0 < self.old.spare }
+        ensures entries { self.new.entries ≡ self.old.entries ++ entry ∷ [] }
+        ensures choices { self.new.choices ≡ self.old.choices ++ option_to_list choice }
+        ensures spare { self.new.spare + 1 ≡ self.old.spare }
+    {
+        self.entries.push_reserved(entry);
+        if let Some(choice) = choice {
+            self.choices.push_reserved(choice);
+        }
+        self.spare -= 1;
+    }
+
+    /// The number of entries.
+    pub fn len(&self) -> usize
+        ensures { result ≡ length self.now.entries }
+    {
+        self.entries.len()
+    }
+
+    /// The entry at a place, counted from 0.
+    pub fn at(&self, place: usize) -> &Entry
+        requires { place < length self.now.entries }
+        ensures { slice_get self.now.entries place ≡ Some result.now }
+    {
+        &self.entries[place]
+    }
 }
