@@ -1,5 +1,5 @@
 -- The kinds of line, and what a text that begins with a word can be.
-use Rattle.std.proofs.Common.{◌≡◌, ◌≢◌, ℕ, ◌+◌, ◌^◌, ◌<◌, ◌≤◌, List, [], ◌∷◌, ◌++◌, length, refl, sym, ◌∙◌, ap, subst, arith, codes, decimal, None, eqb, not, IsTrue}
+use Rattle.std.proofs.Common.{◌≡◌, ◌≢◌, ℕ, ◌^◌, ◌<◌, ◌≤◌, List, ◌∷◌, ◌++◌, refl, sym, ◌∙◌, ap, subst, arith, codes, decimal, None, eqb, not, IsTrue}
 use Rattle.std.proofs.lemmas.Bool.{eqb-false}
 use Rattle.std.proofs.lemmas.Fmt.{decimal_injective}
 use Rattle.f2_model.specs.declared.requests.Request.{Request}
@@ -8,8 +8,8 @@ use Rattle.f2_script.specs.declared.script.Line.{Line}
 use Rattle.f2_script.specs.declared.script.Line.TheVariants.{Mkfs, Call, Tree}
 use Rattle.f2_script.specs.Cuts.{Lacks, IsCutAt, Finds}
 use Rattle.f2_script.specs.Text.{path_text}
-use Rattle.f2_script.specs.Lines.{request_text, spelling}
-use Rattle.f2_script.specs.Grammar.{IsPath, IsRequest, IsPathText, IsRequestText, IsWithinLimits, IsLine}
+use Rattle.f2_script.specs.Lines.{request_text}
+use Rattle.f2_script.specs.Grammar.{IsPath, IsRequest, IsRequestText, IsLine}
 use Rattle.f2_script.proofs.CutLemmas.{one_cut, no_lack}
 use Rattle.f2_script.proofs.Decimals.{decimal_lacks}
 use Rattle.f2_script.proofs.PathLemmas.{one_path, not_false}

@@ -1,5 +1,5 @@
 -- How a script falls into the texts of its lines.
-use Rattle.std.proofs.Common.{◌≡◌, ◌≢◌, ℕ, ◌+◌, ◌<◌, ◌≤◌, Bool, true, false, cond, eqb, List, [], ◌∷◌, ◌++◌, length, refl, sym, ◌∙◌, ap, arith, suc}
+use Rattle.std.proofs.Common.{◌≡◌, ◌≢◌, ℕ, ◌<◌, Bool, true, false, eqb, List, [], ◌∷◌, ◌++◌, length, refl, arith}
 use Rattle.std.specs.List.{onto_first, AllByRecursion}
 use Rattle.f2_script.specs.Cuts.{Lacks, IsCutAt}
 use Rattle.f2_script.specs.Grammar.{lines_of}

@@ -1,11 +1,13 @@
 -- Paths and their texts.
-use Rattle.std.proofs.Common.{◌≡◌, ◌≢◌, ℕ, ◌+◌, ◌<◌, ◌≤◌, Bool, true, false, cond, eqb, not, ◌&&◌, ◌||◌, List, [], ◌∷◌, ◌++◌, length, map, refl, sym, ◌∙◌, ap, arith, suc, leb, append_assoc}
+use Rattle.std.proofs.Common.{◌≡◌, ◌≢◌, ℕ, ◌<◌, Bool, true, false, eqb, not, ◌&&◌, ◌||◌, List, [], ◌∷◌, ◌++◌, length, map, refl, sym, ◌∙◌, ap, arith, append_assoc}
 use Rattle.std.proofs.lemmas.Bool.{false≢true}
-use Rattle.std.specs.List.{onto_first, AllByRecursion, list_all, slice_split, join_with_byte, flat_map}
+use Rattle.std.specs.List.{onto_first, AllByRecursion, list_all, slice_split, join_with_byte}
 use Rattle.std.proofs.lemmas.List.Splits.{slice_split_none, slice_split_at, join_with_byte-slice_split}
 use Rattle.std.proofs.lemmas.List.Elements.{All-from_recursion}
+use Rattle.std.proofs.lemmas.List.{append-nil}
+use Rattle.f2_script.specs.Replies.{names_text}
 use Rattle.f2_script.specs.Cuts.{Lacks, IsCutAt}
-use Rattle.f2_script.specs.Text.{is_plain, byte_text, name_text, path_text}
+use Rattle.f2_script.specs.Text.{is_plain, name_text, path_text}
 use Rattle.f2_script.specs.Grammar.{IsPlainName, IsPath, IsPathText}
 
 -- whether a byte may stand in the text of a path
@@ -126,9 +128,9 @@ parts_are_path names path h some e =
     let joined : join_with_byte 47 path ≡ names = ap (λ p. join_with_byte 47 p) e ∙ join_with_byte-slice_split 47 names in
     let plain : AllByRecursion IsPlainName path = rw e (plain_parts names h) in
     let apart : path ≢ [] ∷ [] = λ same.
-      let none : [] ≡ names = sym (ap (λ p. join_with_byte 47 p) same) ∙ joined in
-      let zero_long : 0 ≡ length names = ap length none in
-      omega arith in
+    let none : [] ≡ names = sym (ap (λ p. join_with_byte 47 p) same) ∙ joined in
+    let zero_long : 0 ≡ length names = ap length none in
+    omega arith in
     ((apart, plain), sym (path_shows path (apart, plain) ∙ ap (λ t. 47 ∷ t) joined))
 
 false_from_ne : (x byte : ℕ) → x ≢ byte → eqb x byte ≡ false
@@ -166,3 +168,9 @@ pub path_found : (text names : List ℕ) (path : List (List ℕ)) (r : Bool) →
 path_found text names path r e all good some parts =
     let h = parts_are_path names path (sym all ∙ good) some parts in
     (h.0, e ∙ h.1)
+
+-- a path that isn't the root has a slash before each name
+pub path_by_names : (path : List (List ℕ)) → 0 < length path → names_text 47 path ≡ path_text path
+path_by_names [] some = absurd (omega arith)
+path_by_names (name ∷ []) some = ap (λ t. 47 ∷ t) (append-nil (name_text name))
+path_by_names (name ∷ next ∷ path) some = ap (λ t. 47 ∷ (name_text name ++ t)) (path_by_names (next ∷ path) (omega arith))

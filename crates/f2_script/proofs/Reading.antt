@@ -1,5 +1,5 @@
 -- What the reader of a script has read so far, and what is left.
-use Rattle.std.proofs.Common.{◌≡◌, ◌≢◌, ℕ, ◌+◌, ◌<◌, ◌≤◌, Bool, true, false, List, None, [], ◌∷◌, ◌++◌, length, refl, sym, ◌∙◌, ap, subst, arith, append_assoc, length-append}
+use Rattle.std.proofs.Common.{◌≡◌, ℕ, ◌+◌, Bool, true, false, List, None, [], ◌∷◌, ◌++◌, length, refl, ap, subst, arith, append_assoc, length-append}
 use Rattle.f2_script.specs.declared.script.Line.{Line}
 use Rattle.f2_script.specs.declared.script.Grammar.{Grammar}
 use Rattle.f2_script.specs.Cuts.{Finds}
@@ -20,9 +20,9 @@ reads_more grammar bytes lines begun left text rest line on e here = record {
   spelled = λ more h. rw append_assoc (on.spelled (line ∷ more) (rw e (here, h)));
   faulty = λ more h. rw append_assoc (on.faulty (line ∷ more) (rw e (here, h)));
   counted =
-    let c = on.counted in
-    let f : length (lines_of left) ≡ length (text ∷ lines_of rest) = ap length e in
-    omega (arith, length-append lines (line ∷ []));
+      let c = on.counted in
+      let f : length (lines_of left) ≡ length (text ∷ lines_of rest) = ap length e in
+      omega (arith, length-append lines (line ∷ []));
 }
 
 pub reads_end : (grammar : Grammar) (bytes : List ℕ) (lines : List Line) (begun : Bool) (left : List ℕ) → ReadsOn grammar bytes lines begun left → lines_of left ≡ [] → Spells grammar bytes lines

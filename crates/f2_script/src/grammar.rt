@@ -186,3 +186,30 @@ pub fn parse(alloc: Global, bytes: &[u8], grammar: Grammar) -> Result<Lines, Scr
     }
     read_lines(alloc, bytes, grammar)
 }
+
+#[cfg(test)]
+mod tests {
+    use super::parse;
+    use crate::script::{Grammar, ScriptFault};
+
+    #[test]
+    fn names_the_first_line_outside_the_grammar(rt: HostRuntime) {
+        let rows: [(&[u8], u32); 9] = [
+            (b"tree\n", 1),
+            (b"mkfs 128 1\ncal 1 sync\n", 2),
+            (b"mkfs 128 1\n\ntree\n", 2),
+            (b"mkfs 128 01\n", 1),
+            (b"mkfs 4294967296 1\n", 1),
+            (b"mkfs 128 1\ntree\nmkfs 128 1\n", 3),
+            (b"mkfs 128 1\ncall 9 create /a\n", 2),
+            (b"mkfs 128 1\ncall 1 create a\n", 2),
+            (b"mkfs 128 1\ncall 1 create /a%41\n", 2),
+        ];
+        for (bytes, want) in rows {
+            match parse(rt.alloc(), bytes, Grammar::Replay) {
+                Err(ScriptFault::Line { line }) => assert_eq!(rt; line, want),
+                _ => panic!(rt; "line {want} is none"),
+            }
+        }
+    }
+}

@@ -12,6 +12,8 @@ mod line_texts;
 mod paths;
 mod reply_texts;
 mod script;
+#[cfg(test)]
+mod tests;
 mod texts;
 mod words;
 

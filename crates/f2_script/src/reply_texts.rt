@@ -63,12 +63,7 @@ fn busy_text(alloc: Global, by: u8) -> Result<Vec<u8>, AllocError>
     Ok(text)
 }
 
-fn no_space_text(
-    alloc: Global,
-    space: Space,
-    need: u32,
-    limit: u32,
-) -> Result<Vec<u8>, AllocError>
+fn no_space_text(alloc: Global, space: Space, need: u32, limit: u32) -> Result<Vec<u8>, AllocError>
     ensures { IfOk result (λ text. text.items ≡ reply_spelling (Reply.NoSpace space need limit)) }
 {
     let mut text = Vec::from_slice(alloc, b"nospace ")?;

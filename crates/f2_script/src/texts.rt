@@ -12,14 +12,22 @@ fn upper_digit(digit: u8) -> u8
     requires { digit < 16 }
     ensures { result ≡ upper digit }
 {
-    if digit >= 10 { b'A' + (digit - 10) } else { b'0' + digit }
+    if digit >= 10 {
+        b'A' + (digit - 10)
+    } else {
+        b'0' + digit
+    }
 }
 
 fn lower_digit(digit: u8) -> u8
     requires { digit < 16 }
     ensures { result ≡ lower digit }
 {
-    if digit >= 10 { b'a' + (digit - 10) } else { b'0' + digit }
+    if digit >= 10 {
+        b'a' + (digit - 10)
+    } else {
+        b'0' + digit
+    }
 }
 
 /// Writes a number.
@@ -73,11 +81,12 @@ pub fn push_names(text: &mut Vec<u8>, mark: u8, names: &[Name]) -> Result<(), Al
 pub fn push_path(text: &mut Vec<u8>, path: &Path) -> Result<(), AllocError>
     ensures { OnOk result (text.new.items ≡ text.old.items ++ path_text path.now) }
 {
-    if path.is_empty() {
+    let names = path.as_slice();
+    if names.is_empty() {
         text.push(b'/')?;
         return Ok(());
     }
-    push_names(text, b'/', path.as_slice())
+    push_names(text, b'/', names)
 }
 
 /// Writes bytes in hexadecimal digits.

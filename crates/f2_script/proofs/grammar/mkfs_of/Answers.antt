@@ -7,9 +7,9 @@ returns-in_err-blocks c = rw c.from_residual.ensures (mkfs_no_cut c.args.words.n
 pub returns-in_err-blocks-2 : goal.returns-in_err-blocks-2
 returns-in_err-blocks-2 c =
     rw c.from_residual-in_err-blocks-2.ensures
-    (mkfs_no_blocks c.args.words.now c.in_ok-blocks.blocks.now c.in_ok-blocks.nat.now c.in_ok-blocks.ensures c.in_err-blocks-2.ensures)
+    (mkfs_no_blocks c.args.words.now _ _ c.in_ok-blocks.ensures c.in_err-blocks-2.ensures)
 
 pub returns-in_err-nat : goal.returns-in_err-nat
 returns-in_err-nat c =
     rw c.from_residual-in_err-nat.ensures
-    (mkfs_no_nat c.args.words.now c.in_ok-blocks.blocks.now c.in_ok-blocks.nat.now c.in_ok-blocks.ensures c.in_err-nat.ensures)
+    (mkfs_no_nat c.args.words.now _ _ c.in_ok-blocks.ensures c.in_err-nat.ensures)

@@ -7,8 +7,8 @@ pub returns : goal.returns
 returns c = record {
   none = λ grammar bytes lines n h k. no_fault grammar false (lines_of bytes) lines k.0 h k.2;
   one = λ grammar bytes m n h k.
-    let e : length h.0 ≡ length k.0 = one_fault grammar false (lines_of bytes) h.0 k.0 h.2 k.2 in
-    let f : m ≡ length h.0 + 1 = h.1 in
-    let g : n ≡ length k.0 + 1 = k.1 in
-    omega arith;
+      let e : length h.0 ≡ length k.0 = one_fault grammar false (lines_of bytes) h.0 k.0 h.2 k.2 in
+      let f : m ≡ length h.0 + 1 = h.1 in
+      let g : n ≡ length k.0 + 1 = k.1 in
+      omega arith;
 }

@@ -1,4 +1,4 @@
-use Rattle.std.proofs.Common.{rules, ◌≡◌, ℕ, ◌+◌, ◌-◌, Option, Some, None, position, sym, ◌∙◌}
+use Rattle.std.proofs.Common.{rules}
 use Rattle.f2_script.proofs.CutLemmas.{cut_none, cut_found}
 use Rattle.f2_script.proofs.words.cut_at.Goals as goal
 

@@ -1,4 +1,4 @@
-use Rattle.std.proofs.Common.{rules, ◌≡◌, ℕ, ◌^◌, ◌<◌, ◌≤◌, decimal, subst, sym, ◌∙◌, arith, Result, Ok, Err, Bool, true, false, eqb, List}
+use Rattle.std.proofs.Common.{◌≡◌, ℕ, subst, sym, ◌∙◌, arith, Bool, false, eqb, List}
 use Rattle.std.proofs.lemmas.Bool.{false≢true}
 use Rattle.std.specs.Cmp.Lexicographic.{pointwise}
 use Rattle.std.proofs.lemmas.Slice.Eq.{bytes_eq-Decides}
@@ -25,8 +25,8 @@ returns-else-number-limit c = λ x p.
     let e = parses_decimal _ c.args.text.now c.in-Ok.digits.now c.args.limit x c.in-Ok.ensures.cases.0 c.parse.ensures.value.0 (omega arith) p.0 p.1 in
     let same : c.in-Ok-parse.number ≡ x = cc in
     elim c.else-number-limit.branch [
-      else-number-limit-via-then-number-limit+else-eq w ↦
-        let shown : w.as_bytes.result.now ≡ c.args.text.now = cc in
-        differs _ _ _ w.eq.ensures w.if-eq.false shown
-    | else-number-limit-via-else-number-limit w ↦ omega arith
+      | else-number-limit-via-then-number-limit+else-eq w ↦
+          let shown : w.as_bytes.result.now ≡ c.args.text.now = cc in
+          differs _ _ _ w.eq.ensures w.if-eq.false shown
+      | else-number-limit-via-else-number-limit w ↦ omega arith
     ]
