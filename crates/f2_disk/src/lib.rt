@@ -16,6 +16,7 @@ mod disk;
 mod mem_disk;
 mod mem_sink;
 mod mem_source;
+mod plans;
 mod sink;
 mod source;
 mod std_sink;
