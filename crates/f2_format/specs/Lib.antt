@@ -1,1 +1,10 @@
+pub mod Bytes
+pub mod Footer
+pub mod Geometry
+pub mod Inode
+pub mod Journal
+pub mod Nat
+pub mod Pack
 pub mod Packing
+pub mod Seal
+pub mod Superblock
