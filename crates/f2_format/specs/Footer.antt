@@ -1,6 +1,6 @@
 -- The footer of a node: `struct node_footer` of f2fs_fs.h, with the bits of its flag (OFFSET_BIT_SHIFT and
 -- the enum beside it). The cold bit, bit 0, is written as 0 and not looked at.
-use Rattle.std.specs.Prelude.{◌≡◌, ℕ, ◌+◌, ◌*◌, ◌/◌, ◌==◌, Bool, if◌then◌else◌, List, [], ◌∷◌}
+use Rattle.std.specs.Prelude.{ℕ, ◌+◌, ◌*◌, ◌/◌, ◌==◌, Bool, if◌then◌else◌, List, [], ◌∷◌}
 use Rattle.std.specs.Int.{bit_at}
 use Rattle.f2_format.specs.Bytes.{number_at, number_bytes, Field}
 

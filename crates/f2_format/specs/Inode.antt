@@ -1,7 +1,7 @@
 -- An inode, and the nodes of addresses and nids below it: `struct f2fs_inode`, `struct direct_node` and
 -- `struct indirect_node` of f2fs_fs.h. Only the fields named here are used; the others are written as 0 and
 -- not looked at. i_links, i_blocks and the root's i_pino are written as this project's own rules say.
-use Rattle.std.specs.Prelude.{◌≡◌, ℕ, ◌+◌, ◌*◌, ◌/◌, List, [], ◌∷◌, slice_range}
+use Rattle.std.specs.Prelude.{ℕ, ◌+◌, ◌*◌, ◌/◌, List, [], ◌∷◌, slice_range}
 use Rattle.std.specs.List.{flat_map}
 use Rattle.f2_format.specs.Bytes.{number_at, number_bytes, numbers_at, with_bytes, with_fields, zeros}
 use Rattle.f2_format.specs.Footer.{FOOTER_START}
@@ -106,7 +106,7 @@ inode_of block =
       name_length = number_at 4 block INODE_NAME_LENGTH;
       name = slice_range block INODE_NAME (INODE_NAME + NAME_BYTES);
       addresses = numbers_at 4 block INODE_ADDRESSES ADDRESSES_AN_INODE;
-      nids = numbers_at 4 block INODE_NIDS NIDS_AN_INODE
+      nids = numbers_at 4 block INODE_NIDS NIDS_AN_INODE;
     }
 
 -- the bytes of an inode, up to its footer

@@ -1,7 +1,7 @@
 -- The summary of a checkpoint pack with its journal of node address table entries: `struct f2fs_summary_block`,
 -- `struct f2fs_journal` and `struct nat_journal_entry` of f2fs_fs.h. The summary entries and the footer are
 -- written as 0 and not looked at. An entry of the journal goes before the node address table.
-use Rattle.std.specs.Prelude.{◌≡◌, ℕ, ◌+◌, ◌*◌, nat_le, ◌==◌, if◌then◌else◌, List, [], ◌∷◌, ◌++◌, map, length, Option, Some, None}
+use Rattle.std.specs.Prelude.{ℕ, ◌+◌, ◌*◌, ◌==◌, if◌then◌else◌, List, [], ◌∷◌, ◌++◌, map, length, Option, Some, None}
 use Rattle.std.specs.List.{flat_map, range_with_len}
 use Rattle.f2_format.specs.Bytes.{BLOCK_BYTES, number_at, number_bytes, with_fields, zeros}
 use Rattle.f2_format.specs.Nat.{NodePlace, nat_entry_at, nat_entry_bytes}

@@ -1,7 +1,7 @@
 -- The node address table: `struct f2fs_nat_entry` and `struct f2fs_nat_block` of f2fs_fs.h, the bitmap of
 -- a checkpoint that says which copy of a block counts (f2fs_test_bit and f2fs_change_bit of f2fs.h). The
 -- version of an entry is written as 0 and not looked at.
-use Rattle.std.specs.Prelude.{◌≡◌, ℕ, ◌+◌, ◌-◌, ◌*◌, ◌/◌, ◌%◌, ◌^◌, ◌==◌, Bool, List, [], ◌∷◌, ◌++◌, slice_index, slice_set, bit_xor}
+use Rattle.std.specs.Prelude.{ℕ, ◌+◌, ◌-◌, ◌*◌, ◌/◌, ◌%◌, ◌^◌, ◌==◌, Bool, List, ◌∷◌, ◌++◌, slice_index, slice_set, bit_xor}
 use Rattle.std.specs.Int.{bit_at}
 use Rattle.f2_format.specs.Bytes.{number_at, number_bytes, with_bytes}
 use Rattle.f2_format.specs.Geometry.{ENTRIES_A_NAT_BLOCK}

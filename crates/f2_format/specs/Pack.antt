@@ -44,7 +44,7 @@ head_of block =
       nat = number_at 4 block HEAD_NAT;
       log_start = number_at 4 block HEAD_LOG_START;
       flags = number_at 4 block HEAD_FLAGS;
-      bitmap = slice_range block HEAD_BITMAP (HEAD_BITMAP + BITMAP_BYTES)
+      bitmap = slice_range block HEAD_BITMAP (HEAD_BITMAP + BITMAP_BYTES);
     }
 
 -- the head with these fields, its seal still 0

@@ -1,7 +1,7 @@
 -- The seal of a block: the check sum that f2fs_crc32 makes, as the remainder of a division of polynomials
 -- over the two-element field. A polynomial is the list of its coefficients, the highest power first. Which
 -- bytes are sealed and where the seal stands is this project's own.
-use Rattle.std.specs.Prelude.{◌≡◌, ℕ, zero, suc, ◌+◌, ◌*◌, ◌==◌, Bool, true, false, not, if◌then◌else◌, List, [], ◌∷◌, ◌++◌, map, length, take, replicate}
+use Rattle.std.specs.Prelude.{ℕ, zero, suc, ◌+◌, ◌*◌, ◌==◌, Bool, false, not, if◌then◌else◌, List, [], ◌∷◌, ◌++◌, map, length, take, replicate}
 use Rattle.std.specs.List.{flat_map, range_with_len}
 use Rattle.std.specs.Int.{bit_at}
 use Rattle.f2_format.specs.Bytes.{number_at}
