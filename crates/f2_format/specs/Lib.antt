@@ -4,6 +4,7 @@ pub mod Geometry
 pub mod Inode
 pub mod Journal
 pub mod Nat
+pub mod Offsets
 pub mod Pack
 pub mod Packing
 pub mod Seal

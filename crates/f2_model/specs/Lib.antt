@@ -1,0 +1,11 @@
+-- The abstract machine: what the tree is, what each call does, and what a crash may leave.
+pub mod Names
+pub mod Content
+pub mod Tree
+pub mod Count
+pub mod Call
+pub mod State
+pub mod Fallback
+pub mod Step
+pub mod Run
+pub mod History
