@@ -92,7 +92,11 @@ breaks_zones extent = nat_lt (node_third extent) LEAST_NODE_THIRD
 abbrev pub breaks_nids : Extent → Bool
 breaks_nids extent = nat_lt (nid_limit extent) (3 * node_third extent + 4)
 
--- no limit is broken
-abbrev pub is_geometry : Extent → Bool
-is_geometry extent =
-    not (breaks_blocks extent || breaks_nat extent || breaks_zones extent || breaks_nids extent)
+-- sizes that break no limit
+pub record IsGeometry (extent : Extent) : Type 0 where
+  pub least_blocks : LEAST_BLOCKS ≤ extent.blocks
+  pub most_blocks : extent.blocks ≤ MOST_BLOCKS
+  pub least_nat : 1 ≤ extent.nat
+  pub most_nat : extent.nat ≤ MOST_NAT
+  pub zones : LEAST_NODE_THIRD ≤ node_third extent
+  pub nids : 3 * node_third extent + 4 ≤ nid_limit extent

@@ -3,8 +3,9 @@
 -- not looked at. i_links, i_blocks and the root's i_pino are written as this project's own rules say.
 use Rattle.std.specs.Prelude.{ℕ, ◌+◌, ◌*◌, ◌/◌, List, [], ◌∷◌, slice_range}
 use Rattle.std.specs.List.{flat_map}
-use Rattle.f2_format.specs.Bytes.{number_at, number_bytes, numbers_at, with_bytes, with_fields, zeros}
+use Rattle.f2_format.specs.Bytes.{BLOCK_BYTES, number_at, number_bytes, numbers_at, with_bytes, with_fields, zeros}
 use Rattle.f2_format.specs.Footer.{FOOTER_START}
+use Rattle.f2_format.specs.Offsets.{inode_pages, page_limit}
 
 -- i_mode, two bytes
 abbrev pub INODE_MODE : ℕ
@@ -42,10 +43,6 @@ NAME_BYTES = 255
 abbrev pub INODE_ADDRESSES : ℕ
 INODE_ADDRESSES = 360
 
--- the addresses of an inode (DEF_ADDRS_PER_INODE)
-abbrev pub ADDRESSES_AN_INODE : ℕ
-ADDRESSES_AN_INODE = 923
-
 -- i_nid: two direct nodes, two indirect nodes, one double indirect node
 abbrev pub INODE_NIDS : ℕ
 INODE_NIDS = 4052
@@ -53,10 +50,6 @@ INODE_NIDS = 4052
 -- the nids of an inode (DEF_NIDS_PER_INODE)
 abbrev pub NIDS_AN_INODE : ℕ
 NIDS_AN_INODE = 5
-
--- the addresses of a direct node, and the nids of an indirect node (DEF_ADDRS_PER_BLOCK, NIDS_PER_BLOCK)
-abbrev pub WORDS_A_NODE : ℕ
-WORDS_A_NODE = 1018
 
 -- the mode of a regular file: S_IFREG, and read by all but written by its owner
 abbrev pub REGULAR_MODE : ℕ
@@ -78,9 +71,9 @@ REGULAR_KIND = 8
 abbrev pub DIRECTORY_KIND : ℕ
 DIRECTORY_KIND = 4
 
--- the bytes of the longest file: 1,057,053,439 pages
+-- the bytes of the longest file
 abbrev pub SIZE_LIMIT : ℕ
-SIZE_LIMIT = 1057053439 * 4096
+SIZE_LIMIT = page_limit * BLOCK_BYTES
 
 -- the fields of an inode that are used: the name is all 255 bytes of i_name
 pub record InodeFields : Type 0 where
@@ -105,7 +98,7 @@ inode_of block =
       parent = number_at 4 block INODE_PARENT;
       name_length = number_at 4 block INODE_NAME_LENGTH;
       name = slice_range block INODE_NAME (INODE_NAME + NAME_BYTES);
-      addresses = numbers_at 4 block INODE_ADDRESSES ADDRESSES_AN_INODE;
+      addresses = numbers_at 4 block INODE_ADDRESSES inode_pages;
       nids = numbers_at 4 block INODE_NIDS NIDS_AN_INODE;
     }
 

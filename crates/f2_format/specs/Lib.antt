@@ -1,4 +1,5 @@
 pub mod Bytes
+pub mod Dentry
 pub mod Footer
 pub mod Geometry
 pub mod Inode

@@ -3,7 +3,7 @@
 -- this project's own. Bytes that no field covers are written as 0 and not looked at.
 use Rattle.std.specs.Prelude.{ℕ, ◌==◌, nat_le, Bool, ◌&&◌, List, [], ◌∷◌}
 use Rattle.f2_format.specs.Bytes.{BLOCK_BYTES, number_at, number_bytes, with_fields, zeros}
-use Rattle.f2_format.specs.Geometry.{Extent, is_geometry}
+use Rattle.f2_format.specs.Geometry.{Extent, IsGeometry}
 
 -- F2FS_SUPER_MAGIC
 abbrev pub MAGIC : ℕ
@@ -34,10 +34,11 @@ abbrev pub super_extent : List ℕ → Extent
 super_extent block = record { blocks = number_at 4 block SUPER_BLOCKS; nat = number_at 4 block SUPER_NAT }
 
 -- a superblock of an image that a device with so many blocks holds
-abbrev pub is_super : List ℕ → ℕ → Bool
-is_super block device =
-    (number_at 4 block SUPER_MAGIC == MAGIC) && (number_at 8 block SUPER_TAG == TAG)
-    && is_geometry (super_extent block) && nat_le (super_extent block).blocks device
+pub record IsSuper (block : List ℕ) (device : ℕ) : Type 0 where
+  pub magic : number_at 4 block SUPER_MAGIC ≡ MAGIC
+  pub tag : number_at 8 block SUPER_TAG ≡ TAG
+  pub geometry : IsGeometry (super_extent block)
+  pub within : (super_extent block).blocks ≤ device
 
 -- the superblock of an image of these sizes
 abbrev pub super_block : Extent → List ℕ
