@@ -1,7 +1,7 @@
 -- Where the parts of an image stand. The order of the parts (superblock, checkpoint packs, node address
 -- table, main area) is F2FS's; the sizes, the two zones of the main area and the limits are this project's
 -- own. An address is the number of a block, and the address 0 means that there is no block (NULL_ADDR).
-use Rattle.std.specs.Prelude.{ℕ, ◌+◌, ◌-◌, ◌*◌, ◌/◌, nat_lt, Bool, not, ◌||◌, ◌&&◌, if◌then◌else◌}
+use Rattle.std.specs.Prelude.{◌≤◌, ℕ, ◌+◌, ◌-◌, ◌*◌, ◌/◌, nat_lt, Bool, not, ◌||◌, ◌&&◌, if◌then◌else◌}
 
 -- the blocks of an image, and those of one copy of its node address table
 pub record Extent : Type 0 where
