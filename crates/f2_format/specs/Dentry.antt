@@ -1,7 +1,7 @@
 -- A block of a directory: `struct f2fs_dentry_block` and `struct f2fs_dir_entry` of f2fs_fs.h, read as
 -- f2fs_fill_dentries of dir.c does. The hash of a name is written as 0 and not looked at. What is a fault is
 -- this project's own.
-use Rattle.std.specs.Prelude.{◌≡◌, ℕ, zero, suc, ◌+◌, ◌-◌, ◌*◌, ◌/◌, ◌%◌, ◌^◌, ◌==◌, nat_le, Bool, not, ◌&&◌, ◌||◌, if◌then◌else◌, List, [], ◌∷◌, ◌++◌, map, filter, find, length, slice_index, slice_set, slice_range, bit_or, Option}
+use Rattle.std.specs.Prelude.{ℕ, zero, suc, ◌+◌, ◌-◌, ◌*◌, ◌/◌, ◌%◌, ◌^◌, ◌==◌, nat_le, Bool, not, ◌&&◌, ◌||◌, if◌then◌else◌, List, [], ◌∷◌, map, filter, find, length, slice_index, slice_set, slice_range, bit_or, Option}
 use Rattle.std.specs.List.{list_all, range_with_len}
 use Rattle.std.specs.Int.{bit_at}
 use Rattle.f2_format.specs.Bytes.{BLOCK_BYTES, number_at, number_bytes, with_fields, zeros}

@@ -1,7 +1,7 @@
 -- The superblock, which stands in block 0 and in block 1. The magic number and its place are F2FS's
 -- (F2FS_SUPER_MAGIC, F2FS_SUPER_OFFSET and the first field of `struct f2fs_super_block`); the other fields are
 -- this project's own. Bytes that no field covers are written as 0 and not looked at.
-use Rattle.std.specs.Prelude.{◌≤◌, ◌≡◌, ℕ, ◌==◌, nat_le, Bool, ◌&&◌, List, [], ◌∷◌}
+use Rattle.std.specs.Prelude.{◌≤◌, ◌≡◌, ℕ, List, [], ◌∷◌}
 use Rattle.f2_format.specs.Bytes.{BLOCK_BYTES, number_at, number_bytes, with_fields, zeros}
 use Rattle.f2_format.specs.Geometry.{Extent, IsGeometry}
 
