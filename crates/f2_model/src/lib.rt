@@ -13,6 +13,7 @@
 mod bounds;
 mod histories;
 mod lists;
+mod meets;
 mod names;
 mod page_maps;
 mod paths;
@@ -26,6 +27,7 @@ mod trees;
 pub use bounds::Limits;
 pub use histories::{CallKind, Entry, Log};
 pub use lists::{Bytes, Items, Name, Names, Numbers, Path};
+pub use meets::Meet;
 pub use page_maps::{Block, Pages};
 pub use replies::{Begun, Outcome, Plan, Reason, Replies, Reply, Space, Step, Tick};
 pub use requests::{Piece, Pieces, Request};
