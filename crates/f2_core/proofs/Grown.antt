@@ -22,7 +22,7 @@ pub len-grown : {limits : Limits} (tree : Rows) (row : Row) → IsGrown limits t
 len-grown tree row grown = let free = fresh-grown tree grown in grind (gets, arith, free)
 
 -- a key that ties is the key
-tied : (x y : ℕ) → eq_by_cmp nat_cmp x y ≡ true → x ≡ y
+pub tied : (x y : ℕ) → eq_by_cmp nat_cmp x y ≡ true → x ≡ y
 tied x y e = let is : (x == y) ≡ true = sym (unsigned_tied x y) ∙ e in grind (arith, is)
 
 -- where an entry of the longer tree stands

@@ -41,7 +41,7 @@ barring-none : (tree : Rows) (n seat : ℕ) → barring_seat (state_of tree true
 barring-none tree n seat = rw (map.get-empty nat_cmp seat, entries-empty {X = Flight}) refl
 
 -- a choice by a test, and by what there is, at a known answer
-on_false : (b : Bool) (P Q : Type 0) → b ≡ false → Q → MatchBool b P Q
+pub on_false : (b : Bool) (P Q : Type 0) → b ≡ false → Q → MatchBool b P Q
 on_false true P Q is q = absurd (true≢false is)
 on_false false P Q is q = q
 
@@ -53,7 +53,7 @@ on_none : {X : Type 0} (o : Option X) (P : Type 0) (Q : X → Type 0) → o ≡ 
 on_none None P Q is p = p
 on_none (Some x) P Q is p = absurd (none-some x (sym is))
 
-on_some : {X : Type 0} (o : Option X) (P : Type 0) (Q : X → Type 0) (x : X) → o ≡ Some x → Q x → MatchOption o P Q
+pub on_some : {X : Type 0} (o : Option X) (P : Type 0) (Q : X → Type 0) (x : X) → o ≡ Some x → Q x → MatchOption o P Q
 on_some None P Q x is q = absurd (none-some x is)
 on_some (Some y) P Q x is q = subst Q (sym (ap (λ o. unwrap_or o y) is)) q
 

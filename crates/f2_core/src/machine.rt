@@ -120,8 +120,11 @@ impl<D: Disk> Core<D> {
         if self.history.len() >= MOST_ENTRIES {
             return Reply::Spent;
         }
-        match add_file(self.alloc, &mut self.tree, self.limits, &path) {
-            Ok(Ok(ino)) => {
+        let Ok(added) = add_file(self.alloc, &mut self.tree, self.limits, &path) else {
+            return Reply::Memory;
+        };
+        match added {
+            Ok(ino) => {
                 let entry = Entry::Did {
                     seat,
                     request: Request::Create { path },
@@ -130,7 +133,7 @@ impl<D: Disk> Core<D> {
                 self.history.add(entry, Some(ino));
                 Reply::Done
             }
-            Ok(Err(refusal)) => {
+            Err(refusal) => {
                 let entry = Entry::Did {
                     seat,
                     request: Request::Create { path },
@@ -139,7 +142,6 @@ impl<D: Disk> Core<D> {
                 self.history.add(entry, None);
                 refusal
             }
-            Err(_) => Reply::Memory,
         }
     }
 

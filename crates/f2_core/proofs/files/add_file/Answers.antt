@@ -8,6 +8,7 @@ use Rattle.f2_model.specs.declared.replies.Space.TheVariants.{Node}
 use Rattle.f2_core.specs.Seen.{IsGrown}
 use Rattle.f2_core.proofs.Refusals.{effect-create, on_ok}
 use Rattle.f2_core.proofs.Created
+use Rattle.f2_core.proofs.Opened
 use Rattle.f2_core.proofs.Grown.{IsGrown-insert}
 use Rattle.f2_core.proofs.files.add_file.Goals as goal
 
