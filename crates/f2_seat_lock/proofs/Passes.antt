@@ -1,15 +1,15 @@
 -- A pass rests again after each call.
-use Rattle.std.proofs.Common.{◌≡◌, ◌≢◌, ℕ, ◌+◌, ◌-◌, ◌<◌, ◌≤◌, List, [], ◌∷◌, length, get_or, set, ⊎_elim, refl, sym, ap, ◌∙◌, subst, arith, length-set, replicate}
+use Rattle.std.proofs.Common.{◌≡◌, ◌≢◌, ℕ, ◌-◌, ◌<◌, ◌≤◌, List, [], length, get_or, refl, sym, ap, ◌∙◌, subst, arith, length-set, replicate}
 use Rattle.std.specs.Prelude.{Option, Some, None}
 use mathlib.Core.Logic.{dite}
 use native.Mathlib.Decide.{ℕ_discrete}
 use Rattle.atomic_table.specs.Table.{Me}
 use Rattle.f2_seat_lock.specs.declared.view.View.{View}
-use Rattle.f2_seat_lock.specs.Map.{part_of, with_part, without, only, together}
+use Rattle.f2_seat_lock.specs.Map.{part_of, with_part}
 use Rattle.std.proofs.lemmas.List.{length-replicate}
 use Rattle.atomic_table.specs.Seated.{TableId}
 use Rattle.f2_seat_lock.specs.Known.{Known, split_off, split_rest, joined, after_hold, Holds}
-use Rattle.f2_seat_lock.specs.Rule.{known, at_rest, split_left, split_right, next_of, join_both, settled, holding, telling, Rests, HasOwn, raised, first_view, Fits}
+use Rattle.f2_seat_lock.specs.Rule.{known, split_left, split_right, next_of, join_both, settled, holding, telling, raised, first_view, Fits}
 use Rattle.f2_seat_lock.specs.Turn.{IsPass, HoldsValue, Moves}
 use Rattle.f2_seat_lock.specs.Plays.{Taken}
 use Rattle.f2_seat_lock.proofs.Maps.{in_range, set_here, set_else, all_parts_there, length-all_parts, length-only, together_left, length-together}

@@ -1,5 +1,5 @@
 -- Each step keeps the rule, and tells its seat what it says.
-use Rattle.std.proofs.Common.{◌≡◌, ◌≢◌, ◌⊎◌, ℕ, zero, suc, ◌+◌, ◌-◌, ◌<◌, ◌≤◌, List, [], ◌∷◌, ◌++◌, length, get_or, set, max, eqb, inl, inr, ⊎_elim, refl, sym, ap, ◌∙◌, subst, arith, length-set}
+use Rattle.std.proofs.Common.{◌≡◌, ◌≢◌, ◌⊎◌, ℕ, zero, suc, ◌<◌, ◌≤◌, List, [], ◌∷◌, ◌++◌, length, get_or, set, max, eqb, inl, inr, ⊎_elim, refl, sym, ap, ◌∙◌, subst, arith, length-set}
 use Rattle.std.specs.Prelude.{Option, Some, None}
 use mathlib.Core.Logic.{dite}
 use mathlib.Core.Option.{some, none, some-injective, some-ne-none}
@@ -8,15 +8,14 @@ use native.Mathlib.Decide.{ℕ_discrete}
 use lib.ListN.{get_elem?}
 use lib.Seq.{set-get_or}
 use prog.Atomic.{either}
-use Rattle.atomic_table.specs.Table.{State, Me, step, Act, keeps, takes, gives, stepped, Allows, Splits, Joins, rest, opening, Final, Seen}
+use Rattle.atomic_table.specs.Table.{State, Me, step, keeps, takes, gives, stepped, Allows, Splits, Joins, opening, Final, Seen}
 use Rattle.atomic_table.proofs.Lists.{at_set, set_else as else_at, at_longer, exchanged}
 use Rattle.f2_seat_lock.specs.declared.view.View.{View}
-use Rattle.f2_seat_lock.specs.Map.{part_of, with_part, without, only, together}
-use Rattle.f2_seat_lock.specs.Known.{longer}
-use Rattle.f2_seat_lock.specs.Rule.{at_rest, spent, split_left, split_right, next_of, join_both, settled, holding, telling, Rests, HasOwn, Apart, IsLevel, raised, first_view, Fits, Alone, Kept}
+use Rattle.f2_seat_lock.specs.Map.{part_of}
+use Rattle.f2_seat_lock.specs.Rule.{spent, split_left, split_right, next_of, join_both, settled, holding, telling, HasOwn, Apart, IsLevel, raised, first_view, Fits, Alone, Kept}
 use Rattle.f2_seat_lock.specs.Turn.{Moves}
-use Rattle.f2_seat_lock.specs.Plays.{Taken, took, raised_to, gave, Told, told, Settles, settles}
-use Rattle.f2_seat_lock.proofs.Maps.{some_same, none_some, in_range, set_cases, set_here, without_cases, only_cases, together_cases, together_left, all_parts_cases, all_parts_there, length-all_parts, length-only, length-together}
+use Rattle.f2_seat_lock.specs.Plays.{took, raised_to, gave, told, settles}
+use Rattle.f2_seat_lock.proofs.Maps.{some_same, none_some, in_range, set_cases, set_here, without_cases, only_cases, together_cases, all_parts_cases, length-all_parts, length-only, length-together}
 use Rattle.f2_seat_lock.proofs.Logs.{begins_itself, begins_further, in_line}
 
 -- an exchange that looks for a free turn leaves none
@@ -62,9 +61,9 @@ module _ {S P E : Type 0} where
   pub apart_set : (views : List (View S P E)) (id : ℕ) (v w : View S P E) → get_elem? views id ≡ some v → ((k : ℕ) (p : P) → part_of w.parts k ≡ Some p → (q : P) × (part_of v.parts k ≡ Some q)) → Apart views → Apart (set views id w)
   apart_set views id v w at less apart i j k u x p q ui xj up xq =
       let old : (i : ℕ) (u : View S P E) → get_elem? (set views id w) i ≡ some u → (p : P) → part_of u.parts k ≡ Some p → (y : View S P E) × (q : P) × (get_elem? views i ≡ some y) × (part_of y.parts k ≡ Some q) =
-          each_set (λ i u. (p : P) → part_of u.parts k ≡ Some p → (y : View S P E) × (q : P) × (get_elem? views i ≡ some y) × (part_of y.parts k ≡ Some q)) views id w
-          (λ i u _ e p h. (u, p, e, h))
-          (λ p h. let t = less k p h in (v, t.0, at, t.1)) in
+      each_set (λ i u. (p : P) → part_of u.parts k ≡ Some p → (y : View S P E) × (q : P) × (get_elem? views i ≡ some y) × (part_of y.parts k ≡ Some q)) views id w
+      (λ i u _ e p h. (u, p, e, h))
+      (λ p h. let t = less k p h in (v, t.0, at, t.1)) in
       let a = old i u ui p up in let b = old j x xj q xq in
       apart i j k a.0 b.0 a.1 b.1 a.2 b.2 a.3 b.3
 
@@ -93,14 +92,14 @@ module _ {S P E : Type 0} (log : S → List E) (part : S → ℕ → P) (marks :
       → w.seat ≡ v.seat → w.parts ≡ v.parts → w.holds ≡ v.holds → Fit r.value w → Rule record { words = ws; homes = s.homes; views = set s.views id w }
   stays s r ws turn id v w at words free taken seat parts holds fits =
       let moved : (holder j : ℕ) → Alone r.value r.turn holder j v → Alone r.value turn holder j w =
-          λ holder j a. record {
-            taken = λ z. a.taken (free z);
-            is_holder = a.is_holder;
-            copy = holds ∙ a.copy;
-            own = (a.own.0, ap (λ (x : List (Option P) × ℕ). part_of x.0 x.1) (λ i. (parts i, seat i)) ∙ a.own.1);
-          } in
+      λ holder j a. record {
+        taken = λ z. a.taken (free z);
+        is_holder = a.is_holder;
+        copy = holds ∙ a.copy;
+        own = (a.own.0, ap (λ (x : List (Option P) × ℕ). part_of x.0 x.1) (λ i. (parts i, seat i)) ∙ a.own.1);
+      } in
       let same : (holder j : ℕ) (u : W) → Alone r.value r.turn holder j u → Alone r.value turn holder j u =
-          λ holder j u a. record { taken = λ z. a.taken (free z); is_holder = a.is_holder; copy = a.copy; own = a.own } in
+      λ holder j u a. record { taken = λ z. a.taken (free z); is_holder = a.is_holder; copy = a.copy; own = a.own } in
       record {
         value = r.value;
         turn = turn;
@@ -111,8 +110,11 @@ module _ {S P E : Type 0} (log : S → List E) (part : S → ℕ → P) (marks :
         away = λ n. let a = r.away (λ z. n (taken z)) in (
           a.0,
           dite (ℕ_discrete r.holder id)
-              (λ e. (w, ap (λ h. get_elem? (set s.views id w) h) e ∙ there_set s.views id v w at,
-                  moved r.holder r.holder (subst (λ (u : W). Alone r.value r.turn r.holder r.holder u) (some-injective _ _ (sym a.1.1 ∙ (ap (get_elem? s.views) e ∙ at))) a.1.2)))
+              (λ e. (
+                w,
+                ap (λ h. get_elem? (set s.views id w) h) e ∙ there_set s.views id v w at,
+                moved r.holder r.holder (subst (λ (u : W). Alone r.value r.turn r.holder r.holder u) (some-injective _ _ (sym a.1.1 ∙ (ap (get_elem? s.views) e ∙ at))) a.1.2),
+              ))
               (λ ne. (a.1.0, else_at s.views id r.holder w ne ∙ a.1.1, same r.holder r.holder a.1.0 a.1.2)),
         );
         alone = each_set (λ j u. (x : S) → u.holds ≡ Some x → Alone r.value turn r.holder j u) s.views id w
@@ -196,7 +198,7 @@ module _ {S P E : Type 0} (log : S → List E) (part : S → ℕ → P) (marks :
       let inside = in_range v.parts v.seat mine.own.0 mine.own.1 in
       let now : Alone y r.turn id id w = record { taken = mine.taken; is_holder = refl; copy = refl; own = (part y v.seat, set_here v.parts v.seat (Some (part y v.seat)) inside) } in
       let less : (q : ℕ) (p : P) → part_of w.parts q ≡ Some p → (o : P) × (part_of v.parts q ≡ Some o) =
-          λ q p h. ⊎_elim (λ (t : (q ≡ v.seat) × (Some (part y v.seat) ≡ Some p)). (mine.own.0, ap (part_of v.parts) t.0 ∙ mine.own.1)) (λ (t : (q ≢ v.seat) × (part_of v.parts q ≡ Some p)). (p, t.1)) (set_cases v.parts v.seat (Some (part y v.seat)) q p h) in (
+      λ q p h. ⊎_elim (λ (t : (q ≡ v.seat) × (Some (part y v.seat) ≡ Some p)). (mine.own.0, ap (part_of v.parts) t.0 ∙ mine.own.1)) (λ (t : (q ≢ v.seat) × (part_of v.parts q ≡ Some p)). (p, t.1)) (set_cases v.parts v.seat (Some (part y v.seat)) q p h) in (
         w,
         keeps,
         tt,
@@ -308,12 +310,12 @@ module _ {S P E : Type 0} (log : S → List E) (part : S → ℕ → P) (marks :
       let old_level = level_set r.seats s.views id v l at fewer (length-set v.parts (next_of v) None) r.level in
       let views : List W = set s.views id l in
       let not_old : (i k : ℕ) (u : W) (p q : P) → get_elem? views i ≡ some u → part_of u.parts k ≡ Some p → part_of n.parts k ≡ Some q → ⊥ =
-          λ i k u p q e h m.
-              let t = only_cases v.parts (next_of v) k q m in
-              ⊎_elim
-              (λ (x : (i ≡ id) × (l ≡ u)). (without_cases v.parts (next_of v) k p (ap (λ (y : W). part_of y.parts k) x.1 ∙ h)).0 t.0)
-              (λ (x : (i ≢ id) × (get_elem? s.views i ≡ some u)). x.0 (r.apart i id k u v p q x.1 at h t.1))
-              (at_set s.views id i l u e) in
+      λ i k u p q e h m.
+      let t = only_cases v.parts (next_of v) k q m in
+      ⊎_elim
+      (λ (x : (i ≡ id) × (l ≡ u)). (without_cases v.parts (next_of v) k p (ap (λ (y : W). part_of y.parts k) x.1 ∙ h)).0 t.0)
+      (λ (x : (i ≢ id) × (get_elem? s.views i ≡ some u)). x.0 (r.apart i id k u v p q x.1 at h t.1))
+      (at_set s.views id i l u e) in
       record {
         value = r.value;
         turn = r.turn;
@@ -328,25 +330,25 @@ module _ {S P E : Type 0} (log : S → List E) (part : S → ℕ → P) (marks :
             (at_push views n u j e);
         fits = λ j u e. ⊎_elim
             (λ old. each_set (λ j u. Fit r.value u) s.views id l (λ j u _ e. r.fits j u e)
-                record { seen = f.seen; heard = f.heard; told = f.told; parts = λ k p h. f.parts k p (without_cases v.parts (next_of v) k p h).1 } j u old)
+            record { seen = f.seen; heard = f.heard; told = f.told; parts = λ k p h. f.parts k p (without_cases v.parts (next_of v) k p h).1 } j u old)
             (λ (t : (j ≡ length views) × (n ≡ u)). subst (Fit r.value) t.1 record { seen = f.seen; heard = (log r.value, refl); told = f.told; parts = λ k p h. f.parts k p (only_cases v.parts (next_of v) k p h).1 })
             (at_push views n u j e);
         apart = λ i j k u x p q ui xj up xq.
             ⊎_elim
             (λ ue. ⊎_elim
-                (λ xe. old_apart i j k u x p q ue xe up xq)
-                (λ (t : (j ≡ length views) × (n ≡ x)). absurd (not_old i k u p q ue up (ap (λ (y : W). part_of y.parts k) t.1 ∙ xq)))
-                (at_push views n x j xj))
+            (λ xe. old_apart i j k u x p q ue xe up xq)
+            (λ (t : (j ≡ length views) × (n ≡ x)). absurd (not_old i k u p q ue up (ap (λ (y : W). part_of y.parts k) t.1 ∙ xq)))
+            (at_push views n x j xj))
             (λ (t : (i ≡ length views) × (n ≡ u)). ⊎_elim
-                (λ xe. absurd (not_old j k x q p xe xq (ap (λ (y : W). part_of y.parts k) t.1 ∙ up)))
-                (λ (t' : (j ≡ length views) × (n ≡ x)). t.0 ∙ sym t'.0)
-                (at_push views n x j xj))
+            (λ xe. absurd (not_old j k x q p xe xq (ap (λ (y : W). part_of y.parts k) t.1 ∙ up)))
+            (λ (t' : (j ≡ length views) × (n ≡ x)). t.0 ∙ sym t'.0)
+            (at_push views n x j xj))
             (at_push views n u i ui);
         level = λ j k u p e h. ⊎_elim
             (λ old. old_level j k u p old h)
             (λ (t : (j ≡ length views) × (n ≡ u)).
-                let there = only_cases v.parts (next_of v) k p (ap (λ (y : W). part_of y.parts k) t.1 ∙ h) in
-                ap (λ (y : W). length y.parts) (sym t.1) ∙ (length-only v.parts (next_of v) ∙ r.level id k v p at there.1))
+            let there = only_cases v.parts (next_of v) k p (ap (λ (y : W). part_of y.parts k) t.1 ∙ h) in
+            ap (λ (y : W). length y.parts) (sym t.1) ∙ (length-only v.parts (next_of v) ∙ r.level id k v p at there.1))
             (at_push views n u j e);
       }
 
@@ -367,25 +369,25 @@ module _ {S P E : Type 0} (log : S → List E) (part : S → ℕ → P) (marks :
       let long : length v.parts ≡ length w.parts = r.level id v.seat v own.0 at own.1 ∙ sym (r.level other w.seat w own'.0 at' own'.1) in
       -- each part stands where it stood, or came from the other view
       let from : (i k : ℕ) (u : W) (p : P) → get_elem? (set views other spent) i ≡ some u → part_of u.parts k ≡ Some p → From s.views id other i k =
-          λ i k u p e h.
-              ⊎_elim
-              (λ (t : (i ≡ other) × (spent ≡ u)). absurd (none_some p (ap (λ (y : W). part_of y.parts k) t.1 ∙ h)))
-              (λ (t : (i ≢ other) × (get_elem? views i ≡ some u)).
-                  ⊎_elim
-                  (λ (t' : (i ≡ id) × (b ≡ u)).
-                      ⊎_elim
-                      (λ mine. inl (v, p, ap (get_elem? s.views) t'.0 ∙ at, mine))
-                      (λ theirs. inr (t'.0, (w, p, at', theirs)))
-                      (together_cases v.parts w.parts k p (ap (λ (y : W). part_of y.parts k) t'.1 ∙ h)))
-                  (λ (t' : (i ≢ id) × (get_elem? s.views i ≡ some u)). inl (u, p, t'.1, h))
-                  (at_set s.views id i b u t.1))
-              (at_set views other i spent u e) in
+      λ i k u p e h.
+      ⊎_elim
+      (λ (t : (i ≡ other) × (spent ≡ u)). absurd (none_some p (ap (λ (y : W). part_of y.parts k) t.1 ∙ h)))
+      (λ (t : (i ≢ other) × (get_elem? views i ≡ some u)).
+      ⊎_elim
+      (λ (t' : (i ≡ id) × (b ≡ u)).
+      ⊎_elim
+      (λ mine. inl (v, p, ap (get_elem? s.views) t'.0 ∙ at, mine))
+      (λ theirs. inr (t'.0, (w, p, at', theirs)))
+      (together_cases v.parts w.parts k p (ap (λ (y : W). part_of y.parts k) t'.1 ∙ h)))
+      (λ (t' : (i ≢ id) × (get_elem? s.views i ≡ some u)). inl (u, p, t'.1, h))
+      (at_set s.views id i b u t.1))
+      (at_set views other i spent u e) in
       let not_other : (i k : ℕ) (u : W) (p : P) → get_elem? (set views other spent) i ≡ some u → part_of u.parts k ≡ Some p → i ≢ other =
-          λ i k u p e h is.
-              ⊎_elim
-              (λ (t : (i ≡ other) × (spent ≡ u)). none_some p (ap (λ (y : W). part_of y.parts k) t.1 ∙ h))
-              (λ (t : (i ≢ other) × (get_elem? views i ≡ some u)). t.0 is)
-              (at_set views other i spent u e) in
+      λ i k u p e h is.
+      ⊎_elim
+      (λ (t : (i ≡ other) × (spent ≡ u)). none_some p (ap (λ (y : W). part_of y.parts k) t.1 ∙ h))
+      (λ (t : (i ≢ other) × (get_elem? views i ≡ some u)). t.0 is)
+      (at_set views other i spent u e) in
       record {
         value = r.value;
         turn = r.turn;
@@ -400,24 +402,28 @@ module _ {S P E : Type 0} (log : S → List E) (part : S → ℕ → P) (marks :
             (λ x h. absurd (none_some x h));
         fits = each_set (λ j u. Fit r.value u) views other spent
             (λ j u _ e. each_set (λ j u. Fit r.value u) s.views id b (λ j u _ e. r.fits j u e)
-                record { seen = f.seen; heard = f'.seen; told = let t = f.told in let t' = f'.told in omega arith;
-                    parts = λ k p h. ⊎_elim (f.parts k p) (f'.parts k p) (together_cases v.parts w.parts k p h) } j u e)
+            record {
+              seen = f.seen;
+              heard = f'.seen;
+              told = let t = f.told in let t' = f'.told in omega arith;
+              parts = λ k p h. ⊎_elim (f.parts k p) (f'.parts k p) (together_cases v.parts w.parts k p h);
+            } j u e)
             record { seen = (log r.value, refl); heard = (log r.value, refl); told = omega arith; parts = λ k p h. absurd (none_some p h) };
         apart = λ i j k u x p q ui xj up xq.
             ⊎_elim
             (λ (a : (y : W) × (o : P) × (get_elem? s.views i ≡ some y) × (part_of y.parts k ≡ Some o)). ⊎_elim
-                (λ (c : (y : W) × (o : P) × (get_elem? s.views j ≡ some y) × (part_of y.parts k ≡ Some o)). r.apart i j k a.0 c.0 a.1 c.1 a.2 c.2 a.3 c.3)
-                (λ (c : (j ≡ id) × ((y : W) × (o : P) × (get_elem? s.views other ≡ some y) × (part_of y.parts k ≡ Some o))). absurd (not_other i k u p ui up (r.apart i other k a.0 c.1.0 a.1 c.1.1 a.2 c.1.2 a.3 c.1.3)))
-                (from j k x q xj xq))
+            (λ (c : (y : W) × (o : P) × (get_elem? s.views j ≡ some y) × (part_of y.parts k ≡ Some o)). r.apart i j k a.0 c.0 a.1 c.1 a.2 c.2 a.3 c.3)
+            (λ (c : (j ≡ id) × ((y : W) × (o : P) × (get_elem? s.views other ≡ some y) × (part_of y.parts k ≡ Some o))). absurd (not_other i k u p ui up (r.apart i other k a.0 c.1.0 a.1 c.1.1 a.2 c.1.2 a.3 c.1.3)))
+            (from j k x q xj xq))
             (λ (a : (i ≡ id) × ((y : W) × (o : P) × (get_elem? s.views other ≡ some y) × (part_of y.parts k ≡ Some o))). ⊎_elim
-                (λ (c : (y : W) × (o : P) × (get_elem? s.views j ≡ some y) × (part_of y.parts k ≡ Some o)). absurd (not_other j k x q xj xq (r.apart j other k c.0 a.1.0 c.1 a.1.1 c.2 a.1.2 c.3 a.1.3)))
-                (λ (c : (j ≡ id) × ((y : W) × (o : P) × (get_elem? s.views other ≡ some y) × (part_of y.parts k ≡ Some o))). a.0 ∙ sym c.0)
-                (from j k x q xj xq))
+            (λ (c : (y : W) × (o : P) × (get_elem? s.views j ≡ some y) × (part_of y.parts k ≡ Some o)). absurd (not_other j k x q xj xq (r.apart j other k c.0 a.1.0 c.1 a.1.1 c.2 a.1.2 c.3 a.1.3)))
+            (λ (c : (j ≡ id) × ((y : W) × (o : P) × (get_elem? s.views other ≡ some y) × (part_of y.parts k ≡ Some o))). a.0 ∙ sym c.0)
+            (from j k x q xj xq))
             (from i k u p ui up);
         level = λ j k u p e h. each_set (λ j u. (p : P) → part_of u.parts k ≡ Some p → length u.parts ≡ r.seats) views other spent
             (λ j u _ e. each_set (λ j u. (p : P) → part_of u.parts k ≡ Some p → length u.parts ≡ r.seats) s.views id b
-                (λ j u _ e p h. r.level j k u p e h)
-                (λ p h. length-together v.parts w.parts long ∙ r.level id v.seat v own.0 at own.1) j u e)
+            (λ j u _ e p h. r.level j k u p e h)
+            (λ p h. length-together v.parts w.parts long ∙ r.level id v.seat v own.0 at own.1) j u e)
             (λ p h. absurd (none_some p h)) j u e p h;
       }
 
@@ -448,12 +454,12 @@ module _ {S P E : Type 0} (log : S → List E) (part : S → ℕ → P) (marks :
       let r = last.1.0 in
       let at = last.1.1 in
       let is_free : r.turn ≡ 0 = dite (ℕ_discrete r.turn 0) (λ z. z) (λ ne.
-          let a = (r.away ne).1 in
-          let theirs = a.2.own in
-          let inside = in_range a.0.parts a.0.seat theirs.0 theirs.1 in
-          let long : length a.0.parts ≡ length v.parts = r.level r.holder a.0.seat a.0 theirs.0 a.1 theirs.1 ∙ sym (r.level id v.seat v own.0 at own.1) in
-          let mine = whole a.0.seat (omega arith) in
-          absurd (elsewhere s r id v at free ne (r.apart r.holder id a.0.seat a.0 v theirs.0 mine.0 a.1 at theirs.1 mine.1))) in
+      let a = (r.away ne).1 in
+      let theirs = a.2.own in
+      let inside = in_range a.0.parts a.0.seat theirs.0 theirs.1 in
+      let long : length a.0.parts ≡ length v.parts = r.level r.holder a.0.seat a.0 theirs.0 a.1 theirs.1 ∙ sym (r.level id v.seat v own.0 at own.1) in
+      let mine = whole a.0.seat (omega arith) in
+      absurd (elsewhere s r id v at free ne (r.apart r.holder id a.0.seat a.0 v theirs.0 mine.0 a.1 at theirs.1 mine.1))) in
       let there : get_elem? xs 0 ≡ some r.value = last.4 0 r.value (ap (λ hs. get_elem? hs 0) (r.home is_free)) in
       let f = r.fits id v at in
       subst (λ y. Fit y v) (some-injective _ _ (sym there ∙ first)) f

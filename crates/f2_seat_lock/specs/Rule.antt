@@ -4,11 +4,11 @@ use Rattle.std.specs.Prelude.{◌≡◌, ◌≢◌, ℕ, ◌-◌, ◌≤◌, Lis
 use mathlib.Core.Option.{some, none}
 use mathlib.Core.List.{IsPrefix}
 use lib.ListN.{get_elem?}
-use Rattle.atomic_table.specs.Table.{State, Me}
+use Rattle.atomic_table.specs.Table.{State}
 use Rattle.atomic_table.specs.Seated.{TableId}
 use Rattle.f2_seat_lock.specs.declared.view.View.{View}
 use Rattle.f2_seat_lock.specs.Map.{part_of, with_part, without, only, together, all_parts}
-use Rattle.f2_seat_lock.specs.Known.{LockId, Known, longer}
+use Rattle.f2_seat_lock.specs.Known.{Known, longer}
 
 module _ {S P E : Type 0} where
   -- the view of a seat that holds nothing

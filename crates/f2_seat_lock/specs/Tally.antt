@@ -1,5 +1,5 @@
 -- The log of the value that the tests lock: which seat made which step.
-use Rattle.std.specs.Prelude.{ℕ, ◌+◌, ◌≤◌, List, ◌++◌, map, filter, count_by, cond, ◌==◌}
+use Rattle.std.specs.Prelude.{ℕ, ◌≤◌, List, ◌++◌, map, filter, count_by, cond, ◌==◌}
 use Rattle.std.proofs.Common.{subst, arith}
 use Rattle.std.proofs.lemmas.List.Sums.{sum_by-append}
 use mathlib.Core.List.{IsPrefix}

@@ -1,4 +1,8 @@
 //! The lock, and the steps on its table.
+//!
+//! The table has one slot, for the value, and two words. The turn says who may take the value out of the slot. The durable
+//! number is that of the marks of the value's log, and it is raised after a job and before the value goes back, so that it
+//! can be read at any time.
 ghost use Rattle.std.specs.Prelude.{◌≡◌, ◌≢◌, ◌<◌, ◌≤◌, ◌-◌, List, [], ◌∷◌, length, All, IsSome, Some, None, IfOk, IfErr};
 ghost use mathlib.Core.List.{IsPrefix};
 ghost use Rattle.f2_seat_lock.specs.Map.{part_of, all_parts};
@@ -24,7 +28,7 @@ const DURABLE: usize = 1;
 // Its slot.
 const VALUE: usize = 0;
 
-// The turn is free, a seat has it, or a seat has it and others may wait.
+// The turn is free, or a seat has it, or a seat has it and others may sleep until it is given.
 const FREE: u64 = 0;
 
 const TAKEN: u64 = 1;
@@ -50,7 +54,8 @@ impl<V: Parts> Model for SeatLock<V> {
 }
 
 impl<V: Parts> SeatLock<V> {
-    /// A lock round the value, and the pass of seat 0, which answers for all parts. The value comes back for want of memory.
+    /// A lock round the value with 1 to 12 seats, and the pass of seat 0. It answers for all parts, and has seen the value's log.
+    /// At an `Err` there was no memory, and the value is as it came.
     pub fn new(alloc: Global, value: V, seats: u8) -> Result<(SeatLock<V>, Pass<V>), V>
         requires { (1 ≤ seats) × (seats ≤ 12) }
         ensures lock { IfOk result (λ made. made.1.lock ≡ made.0) }
@@ -88,7 +93,8 @@ impl<V: Parts> SeatLock<V> {
         }
     }
 
-    /// A pass for the next seat, with that seat's part and with what `pass` has seen.
+    /// A pass for the next seat, with that seat's part out of the map of `pass` and with all that `pass` has seen.
+    /// Only seat 0's pass has seats left.
     pub fn split(&self, pass: &mut Pass<V>) -> Pass<V>
         requires lock { pass.old.lock ≡ self.now }
         requires left { 0 < pass.old.left }
@@ -105,7 +111,7 @@ impl<V: Parts> SeatLock<V> {
         }
     }
 
-    /// Takes in the parts of another pass, and sees the longer of the two logs.
+    /// Takes in another pass: its parts, and the longer of the two logs, which begins with both.
     pub fn join(&self, pass: &mut Pass<V>, other: Pass<V>)
         requires lock { pass.old.lock ≡ self.now }
         requires other { other.lock ≡ self.now }
@@ -113,17 +119,21 @@ impl<V: Parts> SeatLock<V> {
         ensures begins { IsPrefix pass.old.seen pass.new.seen × IsPrefix other.seen pass.new.seen }
     {
         let token = other.into_token();
-        self.table
-            .shared
-            .join_seat::<Seats>(&mut pass.token, token);
+        self.table.shared.join_seat::<Seats>(&mut pass.token, token);
         self.table.shared.load::<Settle>(&mut pass.token, TURN);
     }
 
-    /// Runs the job on the value while no other seat has it. Where another has it, it waits.
+    /// Runs the job on the value while no other seat has it, and waits while another has. The job finds the seat's part as this
+    /// pass left it, in a log that begins with what the pass has seen and has all marks that the pass was told of.
     pub fn with<R: Wait, J: Job<V>>(&self, rt: &R, pass: &mut Pass<V>, job: &mut J)
         requires lock { pass.old.lock ≡ self.now }
-        requires ready { (part : V.Part) (log : List V.Entry) → part_of pass.old.parts pass.old.seat ≡ Some part → IsPrefix pass.old.seen log → J.needs job.old pass.old.seat part log }
-        ensures { Holds V.marks_in (λ part log left new_log. J.does pass.old.seat job.old part log job.new left new_log) pass.old pass.new }
+        requires ready { (part : V.Part) (log : List V.Entry)
+            → part_of pass.old.parts pass.old.seat ≡ Some part
+            → IsPrefix pass.old.seen log
+            → J.needs job.old pass.old.seat part log }
+        ensures { Holds V.marks_in
+            (λ part log left new_log. J.does pass.old.seat job.old part log job.new left new_log)
+            pass.old pass.new }
     {
         let seat = pass.seat;
         let token = &mut pass.token;
@@ -133,7 +143,8 @@ impl<V: Parts> SeatLock<V> {
         self.give_turn(token);
     }
 
-    /// The number of marks that the log has at some moment of the call. It waits for nobody.
+    /// The number of marks in the log at one moment of the call, as far as jobs had ended. It is one load, and waits for nobody.
+    /// From then on the pass finds no log with fewer.
     pub fn durable(&self, pass: &mut Pass<V>) -> u64
         requires { pass.old.lock ≡ self.now }
         ensures seen { V.marks_in pass.old.seen ≤ result }
@@ -143,7 +154,8 @@ impl<V: Parts> SeatLock<V> {
         self.table.shared.load::<Tell>(&mut pass.token, DURABLE)
     }
 
-    /// The value, once all passes were joined into one.
+    /// The value, once this pass answers for each seat, and so all others were joined into it. Its log begins with what the
+    /// pass has seen, and its parts are those of the pass.
     pub fn close(self, pass: Pass<V>) -> V
         requires lock { pass.lock ≡ self }
         requires whole { All IsSome pass.parts }
@@ -158,6 +170,7 @@ impl<V: Parts> SeatLock<V> {
         value
     }
 
+    // Takes the turn, and with it the value, which lies in the seat's hands from then on.
     fn take_turn<R: Wait>(&self, rt: &R, token: &mut Seat<V, View<V, V::Part, V::Entry>>)
         requires lock { token.old.table_id ≡ self.now.table }
         requires rests { (token.old.me.1 ≡ []) × (token.old.me.0.holds ≡ None) }
@@ -178,6 +191,7 @@ impl<V: Parts> SeatLock<V> {
         unreachable!()
     }
 
+    // Runs the job on the value in the seat's hands, and counts the marks that it left.
     fn run<J: Job<V>>(
         &self,
         token: &mut Seat<V, View<V, V::Part, V::Entry>>,
@@ -188,24 +202,31 @@ impl<V: Parts> SeatLock<V> {
         requires held { HoldsValue token.old.me (λ x. J.needs job.old seat (V.part x seat) (V.log x)) }
         ensures seat { (token.new.table_id ≡ token.old.table_id) × (token.new.id ≡ token.old.id) }
         ensures view { token.new.me.0 ≡ token.old.me.0 }
-        ensures moves { HoldsValue token.old.me (λ x. HoldsValue token.new.me (λ y. Moves V.log V.part seat x y × (J.does seat job.old (V.part x seat) (V.log x) job.new (V.part y seat) (V.log y)) × (result ≡ V.marks_in (V.log y)))) }
+        ensures moves { HoldsValue token.old.me (λ x. HoldsValue token.new.me (λ y.
+            Moves V.log V.part seat x y
+            × (J.does seat job.old (V.part x seat) (V.log x) job.new (V.part y seat) (V.log y))
+            × (result ≡ V.marks_in (V.log y)))) }
     {
         let value = token.slot_mut(&self.table.shared, VALUE);
         job.run(value, seat);
         value.marks()
     }
 
+    // Raises the durable number to the marks that the job left, of which all seats can know from then on.
     fn raise(&self, token: &mut Seat<V, View<V, V::Part, V::Entry>>, marks: u64)
         requires lock { token.old.table_id ≡ self.now.table }
-        requires held { HoldsValue token.old.me (λ y. (x : V) × (token.old.me.0.holds ≡ Some x) × Moves V.log V.part token.old.me.0.seat x y × (marks ≡ V.marks_in (V.log y))) }
+        requires held { HoldsValue token.old.me (λ y. (x : V)
+            × (token.old.me.0.holds ≡ Some x)
+            × Moves V.log V.part token.old.me.0.seat x y
+            × (marks ≡ V.marks_in (V.log y))) }
         ensures seat { (token.new.table_id ≡ token.old.table_id) × (token.new.id ≡ token.old.id) }
-        ensures raised { HoldsValue token.old.me (λ y. token.new.me ≡ (raised V.log V.part token.old.me.0 y, token.old.me.1)) }
+        ensures raised { HoldsValue token.old.me (λ y. token.new.me
+            ≡ (raised V.log V.part token.old.me.0 y, token.old.me.1)) }
     {
-        self.table
-            .shared
-            .fetch_max::<Raise>(token, DURABLE, marks);
+        self.table.shared.fetch_max::<Raise>(token, DURABLE, marks);
     }
 
+    // Puts the value back and gives the turn, in one step, and wakes one that may sleep.
     fn give_turn(&self, token: &mut Seat<V, View<V, V::Part, V::Entry>>)
         requires lock { token.old.table_id ≡ self.now.table }
         requires held { HoldsValue token.old.me (λ x. token.old.me.0.holds ≡ Some x) }

@@ -4,10 +4,10 @@ ghost use mathlib.Core.List.{IsPrefix};
 
 /// A value that has a part for each seat, and a log that grows.
 pub trait Parts {
-    /// A seat's part, as contracts see it.
+    /// A seat's part, as contracts see it. No value of it need be made.
     type Part;
 
-    /// What the log is a list of, as contracts see it.
+    /// What the log is a list of, as contracts see it. No value of it need be made.
     type Entry;
 
     /// The part of a seat.
@@ -27,7 +27,7 @@ pub trait Parts {
     ghost never_falls: { (before after : List Self.Entry) → IsPrefix before after → marks_in before ≤ marks_in after };
 }
 
-/// What is done to a value in one hold of the lock, by the seat that holds it.
+/// What is done to a value in one hold of the lock, by the seat that holds it. It changes no other seat's part, and extends the log.
 pub trait Job<V: Parts> {
     /// What it needs of itself, the seat, the seat's part and the log.
     ghost needs: { Self → ℕ → V.Part → List V.Entry → Type 0 };
@@ -35,10 +35,12 @@ pub trait Job<V: Parts> {
     /// What it does, of the seat, and of itself, the seat's part and the log before and after.
     ghost does: { ℕ → Self → V.Part → List V.Entry → Self → V.Part → List V.Entry → Type 0 };
 
-    /// Does it.
+    /// Does it, to a value that no other thread has at the time.
     fn run(&mut self, value: &mut V, seat: u8)
         requires { needs self.old seat (V.part value.old seat) (V.log value.old) }
-        ensures does { does seat self.old (V.part value.old seat) (V.log value.old) self.new (V.part value.new seat) (V.log value.new) }
+        ensures does { does seat
+            self.old (V.part value.old seat) (V.log value.old)
+            self.new (V.part value.new seat) (V.log value.new) }
         ensures others { (other : ℕ) → other ≢ seat → V.part value.new other ≡ V.part value.old other }
         ensures grows { IsPrefix (V.log value.old) (V.log value.new) };
 }

@@ -7,8 +7,8 @@ use crate::view::View;
 use atomic_table::Seat;
 use std::marker::Model;
 
-/// A seat at a lock: what it knows of the value. One thread calls the lock with it at a time, and it may move to another thread.
-/// Contracts see it as a `Known`.
+/// A seat at a lock, with what it knows of the value. It may move to another thread. One that is dropped takes the parts that
+/// it answers for with it, and the lock can't be closed. Contracts see it as a `Known`.
 pub struct Pass<V: Parts> {
     pub(crate) seat: u8,
     pub(crate) left: u8,

@@ -1,4 +1,4 @@
-use Rattle.std.proofs.Common.{◌≡◌, ℕ, ◌≤◌, length, sym, subst, ap, ◌∙◌}
+use Rattle.std.proofs.Common.{◌≡◌, ◌≤◌, length, sym, subst}
 use Rattle.std.specs.Prelude.{All, IsSome}
 use mathlib.Core.List.{IsPrefix}
 use Rattle.f2_seat_lock.specs.Map.{all_parts}

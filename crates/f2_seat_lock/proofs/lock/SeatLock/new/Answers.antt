@@ -12,7 +12,7 @@ new-requires g c =
     let items = c.in_default.ensures.items ∙ ap (λ l. l ++ c.args.value ∷ []) c.new-slots.ensures.items in
     let V = g.V.Parts in
     subst (λ (z : List g.row.V.Denot × g.row.V.Denot). Kept V.log V.part V.marks_in (opening (0 ∷ c.marks-marks.result ∷ []) z.0 (first_view V.log V.part c.args.seats z.1))) (λ i. (sym items i, sym c.of.ensures i))
-        (begins V.log V.part V.marks_in c.args.seats c.marks-marks.result c.args.value c.marks-marks.ensures)
+    (begins V.log V.part V.marks_in c.args.seats c.marks-marks.result c.args.value c.marks-marks.ensures)
 
 pub invariant_of-pass : goal.invariant_of-pass
 invariant_of-pass g c = subst (IsPass _ _) (sym c.in-Ok.ensures.ok.4) (first_pass g.V.Parts.log g.V.Parts.part c.args.seats c.of.result.value c.requires.0)
