@@ -31,23 +31,23 @@ module _ {P E : Type 0} where
 
   -- a new pass for the next seat, which has its part and has seen what the splitting pass has
   abbrev pub split_off : Known P E → Known P E
-  split_off k = record { lock = k.lock; seat = next_seat k; left = 0; parts = only k.parts (next_seat k); seen = k.seen; told = k.told }
+  split_off k = record k { seat = next_seat k; left = 0; parts = only k.parts (next_seat k) }
 
   -- the pass after the next seat was split off
   abbrev pub split_rest : Known P E → Known P E
-  split_rest k = record { lock = k.lock; seat = k.seat; left = k.left - 1; parts = without k.parts (next_seat k); seen = k.seen; told = k.told }
+  split_rest k = record k { left = k.left - 1; parts = without k.parts (next_seat k) }
 
   -- the pass after another was joined into it
   abbrev pub joined : Known P E → Known P E → Known P E
-  joined k other = record { lock = k.lock; seat = k.seat; left = k.left; parts = together k.parts other.parts; seen = longer k.seen other.seen; told = max k.told other.told }
+  joined k other = record k { parts = together k.parts other.parts; seen = longer k.seen other.seen; told = max k.told other.told }
 
   -- the pass after a job left this part and this log
   abbrev pub after_hold : Known P E → P → List E → Known P E
-  after_hold k part log = record { lock = k.lock; seat = k.seat; left = k.left; parts = with_part k.parts k.seat part; seen = log; told = k.told }
+  after_hold k part log = record k { parts = with_part k.parts k.seat part; seen = log }
 
   -- the pass after it was told a number of marks
   abbrev pub after_told : Known P E → ℕ → Known P E
-  after_told k n = record { lock = k.lock; seat = k.seat; left = k.left; parts = k.parts; seen = k.seen; told = n }
+  after_told k n = record k { told = n }
 
   -- One hold: the job found the seat's part as the pass had left it, in a log that begins with what the pass had seen
   -- and has as many marks as it was told of. It made its step, and the pass has what the job left.

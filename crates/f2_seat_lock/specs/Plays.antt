@@ -12,6 +12,7 @@ module _ {S P E : Type 0} (log : S → List E) (part : S → ℕ → P) (marks :
     pub fits : Fits log part marks value m.0
     pub after : m' ≡ (holding m.0 (Some value), (0, value) ∷ m.1)
 
+  -- the turn was free, and is taken with the value; or nothing changed for the seat
   abbrev pub took : Step S → Me S (View S P E) → ℕ → Me S (View S P E) → Type 0
   took st m n m' = (n ≡ 0 → Taken m m') × (n ≢ 0 → m' ≡ m)
 
@@ -27,10 +28,12 @@ module _ {S P E : Type 0} (marks : List E → ℕ) where
     pub before : m.0.told ≤ n
     pub after : m' ≡ (telling m.0 n, m.1)
 
+  -- the durable number was read
   abbrev pub told : Step S → Me S (View S P E) → ℕ → Me S (View S P E) → Type 0
   told st m n m' = Told m n m'
 
 module _ {S P E : Type 0} where
+  -- the seat has given the turn and what it held
   abbrev pub gave : Step S → Me S (View S P E) → ℕ → Me S (View S P E) → Type 0
   gave st m n m' = m' ≡ (holding m.0 None, rest m.1)
 
@@ -40,5 +43,6 @@ module _ {S P E : Type 0} where
     pub heard : IsPrefix m.0.heard (settled m.0).seen
     pub after : m' ≡ (settled m.0, m.1)
 
+  -- the seat sees what it had heard of
   abbrev pub settles : Step S → Me S (View S P E) → ℕ → Me S (View S P E) → Type 0
   settles st m n m' = Settles m m'

@@ -1,5 +1,5 @@
--- The rule of the table. Its slot has the value while nobody holds the turn. Word 0 is the turn: 0 where nobody holds it, 1 where a seat does,
--- and 2 where another may wait for it. Word 1 is the durable number, the marks of the value's log.
+-- The rule of the table. Its slot has the value while nobody holds the turn. Word 0 is the turn: 0 where nobody holds it,
+-- 1 where a seat does, and 2 where another may wait for it. Word 1 is the durable number, the marks of the value's log.
 use Rattle.std.specs.Prelude.{◌≡◌, ◌≢◌, ℕ, ◌-◌, ◌≤◌, List, [], ◌∷◌, length, max, Option, Some, None}
 use mathlib.Core.Option.{some, none}
 use mathlib.Core.List.{IsPrefix}
@@ -19,28 +19,33 @@ module _ {S P E : Type 0} where
   abbrev pub spent : View S P E
   spent = at_rest 0 0 [] [] 0
 
+  -- the number of the next seat that is split off
   abbrev pub next_of : View S P E → ℕ
   next_of v = length v.parts - v.left
 
+  -- the splitting seat's view, without the next seat's part
   abbrev pub split_left : View S P E → View S P E
-  split_left v = record { seat = v.seat; left = v.left - 1; parts = without v.parts (next_of v); seen = v.seen; heard = v.heard; told = v.told; holds = v.holds }
+  split_left v = record v { left = v.left - 1; parts = without v.parts (next_of v) }
 
+  -- the new seat's view, with its own part alone and with what the splitting seat had seen
   abbrev pub split_right : View S P E → View S P E
   split_right v = at_rest (next_of v) 0 (only v.parts (next_of v)) v.seen v.told
 
   -- the parts of both, and what the other has seen is heard of
   abbrev pub join_both : View S P E → View S P E → View S P E
-  join_both v w = record { seat = v.seat; left = v.left; parts = together v.parts w.parts; seen = v.seen; heard = w.seen; told = max v.told w.told; holds = v.holds }
+  join_both v w = record v { parts = together v.parts w.parts; heard = w.seen; told = max v.told w.told }
 
   -- what is heard of is seen
   abbrev pub settled : View S P E → View S P E
-  settled v = record { seat = v.seat; left = v.left; parts = v.parts; seen = longer v.seen v.heard; heard = []; told = v.told; holds = v.holds }
+  settled v = record v { seen = longer v.seen v.heard; heard = [] }
 
+  -- the view while its seat has this copy of the value, or none
   abbrev pub holding : View S P E → Option S → View S P E
-  holding v x = record { seat = v.seat; left = v.left; parts = v.parts; seen = v.seen; heard = v.heard; told = v.told; holds = x }
+  holding v x = record v { holds = x }
 
+  -- the view after its seat was told a number of marks
   abbrev pub telling : View S P E → ℕ → View S P E
-  telling v n = record { seat = v.seat; left = v.left; parts = v.parts; seen = v.seen; heard = v.heard; told = n; holds = v.holds }
+  telling v n = record v { told = n }
 
   -- the view is at rest
   pub record Rests (v : View S P E) : Type 0 where
@@ -60,11 +65,16 @@ module _ {S P E : Type 0} where
 
   -- no seat's part stands in two views
   abbrev pub Apart : List (View S P E) → Type 0
-  Apart views = (i j k : ℕ) (v w : View S P E) (p q : P) → get_elem? views i ≡ some v → get_elem? views j ≡ some w → part_of v.parts k ≡ Some p → part_of w.parts k ≡ Some q → i ≡ j
+  Apart views =
+      (i j k : ℕ) (v w : View S P E) (p q : P)
+      → get_elem? views i ≡ some v → get_elem? views j ≡ some w
+      → part_of v.parts k ≡ Some p → part_of w.parts k ≡ Some q → i ≡ j
 
   -- each map with a part has a place for each seat
   abbrev pub IsLevel : ℕ → List (View S P E) → Type 0
-  IsLevel seats views = (j k : ℕ) (v : View S P E) (p : P) → get_elem? views j ≡ some v → part_of v.parts k ≡ Some p → length v.parts ≡ seats
+  IsLevel seats views =
+      (j k : ℕ) (v : View S P E) (p : P)
+      → get_elem? views j ≡ some v → part_of v.parts k ≡ Some p → length v.parts ≡ seats
 
   -- what the holder of a pass sees of its view
   abbrev pub known : TableId → View S P E → Known P E
@@ -73,7 +83,7 @@ module _ {S P E : Type 0} where
 module _ {S P E : Type 0} (log : S → List E) (part : S → ℕ → P) where
   -- the view after its seat left this value
   abbrev pub raised : View S P E → S → View S P E
-  raised v x = record { seat = v.seat; left = v.left; parts = with_part v.parts v.seat (part x v.seat); seen = log x; heard = v.heard; told = v.told; holds = Some x }
+  raised v x = record v { parts = with_part v.parts v.seat (part x v.seat); seen = log x; holds = Some x }
 
   -- the view of the first seat, which answers for all parts and has seen the log
   abbrev pub first_view : ℕ → S → View S P E
@@ -87,6 +97,7 @@ module _ {S P E : Type 0} (log : S → List E) (part : S → ℕ → P) (marks :
     pub told : v.told ≤ marks (log value)
     pub parts : (k : ℕ) (p : P) → part_of v.parts k ≡ Some p → part value k ≡ p
 
+  -- The rule: one value stands behind the words, the slot and all views
   pub record Kept (s : State S (View S P E)) : Type 0 where
     pub value : S
     pub turn : ℕ
