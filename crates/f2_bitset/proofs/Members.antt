@@ -1,7 +1,7 @@
 -- What a set made by a test over a range contains, and how many.
-use Rattle.std.proofs.Common.{◌≡◌, ℕ, zero, suc, ◌+◌, ◌-◌, ◌<◌, ◌≤◌, Bool, true, false, cond, ◌⊎◌, inl, inr, refl, sym, ap, ◌∙◌, subst, arith, nat_cmp, ◌≢◌, rules, add-one}
+use Rattle.std.proofs.Common.{◌≡◌, ℕ, zero, suc, ◌+◌, ◌-◌, ◌<◌, ◌≤◌, Bool, true, false, cond, inl, inr, refl, sym, ap, ◌∙◌, subst, arith, nat_cmp, ◌≢◌}
 use Rattle.std.specs.FinSet as set
-use Rattle.std.specs.FinSet.{members, nat_cmp-IsAntisymmetric, same_set, contains-insert, contains-remove, len-insert, len-empty, contains-empty}
+use Rattle.std.specs.FinSet.{nat_cmp-IsAntisymmetric, same_set, contains-insert, contains-remove, len-insert, len-empty, contains-empty}
 use Rattle.std.specs.Cmp.{nat_cmp_total, unsigned_tied}
 use Rattle.std.proofs.lemmas.Bool.{cases_lt, cases_eq, false≢true}
 use Rattle.std.proofs.lemmas.Bool.Decides.{nat_tests}

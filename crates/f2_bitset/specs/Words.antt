@@ -1,9 +1,8 @@
 -- A bitmap of 64-bit words as a set of numbers.
-use Rattle.std.specs.Prelude.{◌≡◌, ℕ, zero, suc, ◌+◌, ◌*◌, ◌/◌, ◌%◌, ◌^◌, ◌<◌, ◌≤◌, Bool, true, cond, List, length, nat_eq, slice_index}
+use Rattle.std.specs.Prelude.{◌≡◌, ℕ, zero, suc, ◌+◌, ◌*◌, ◌/◌, ◌%◌, ◌^◌, ◌<◌, Bool, true, cond, List, length, nat_eq, slice_index}
 use Rattle.std.specs.Int.{bit_at}
 use Rattle.std.specs.Ordering.{nat_cmp}
 use Rattle.std.specs.FinSet as set
-use Rattle.f2_bitset.specs.Numbers.{Numbers}
 
 -- whether bit k is set, counted from the lowest bit of the first word
 abbrev pub has_bit : List ℕ → ℕ → Bool

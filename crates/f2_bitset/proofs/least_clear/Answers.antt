@@ -1,8 +1,6 @@
-use Rattle.std.proofs.Common.{◌+◌, ◌*◌, ◌^◌, ◌<◌, ◌≤◌, nat_eq, get_or, inl, inr, ap, sym, subst, ◌∙◌, arith, w64}
-use Rattle.std.specs.Int.{bit_at}
+use Rattle.std.proofs.Common.{◌*◌, nat_eq, get_or, inl, inr, ap, ◌∙◌, arith, w64}
 use Rattle.std.proofs.lemmas.Bool.{cases_lt}
 use Rattle.std.proofs.lemmas.Nat.Bits.{bit_at-trailing_ones, bit_at_ones}
-use Rattle.f2_bitset.specs.Words.{has_bit}
 use Rattle.f2_bitset.proofs.Bits.{has_bit-place, has_bit_before}
 use Rattle.f2_bitset.proofs.least_clear.Goals as goal
 

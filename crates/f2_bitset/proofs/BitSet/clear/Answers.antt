@@ -1,5 +1,4 @@
-use Rattle.std.proofs.Common.{ap, ◌∙◌, arith}
-use Rattle.f2_bitset.specs.Numbers.{Numbers}
+use Rattle.std.proofs.Common.{ap, arith}
 use Rattle.f2_bitset.proofs.Bitmap.{members_of-zeros, IsBitmap-zeros}
 use Rattle.f2_bitset.proofs.BitSet.clear.Goals as goal
 

@@ -1,6 +1,5 @@
-use Rattle.std.proofs.Common.{◌≡◌, ◌*◌, true, false, length, refl, sym, ap, ◌∙◌, arith}
+use Rattle.std.proofs.Common.{◌*◌, length, refl, sym, ap, ◌∙◌}
 use Rattle.std.proofs.lemmas.Bool.{false≢true}
-use Rattle.std.specs.FinSet as set
 use Rattle.f2_bitset.specs.Words.{has_bit}
 use Rattle.f2_bitset.proofs.Bitmap.{covers_of, IsLeastMissing-place, len-gap, len-full, IsFull-len}
 use Rattle.f2_bitset.proofs.BitSet.least_missing.Goals as goal

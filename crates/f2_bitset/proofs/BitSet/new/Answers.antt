@@ -1,5 +1,4 @@
 use Rattle.std.proofs.Common.{◌≡◌, ◌+◌, ◌/◌, refl, ap, ◌∙◌, arith}
-use Rattle.std.proofs.lemmas.Grind.{common_steps}
 use Rattle.f2_bitset.proofs.Bitmap.{members_of-zeros, IsBitmap-zeros}
 use Rattle.f2_bitset.proofs.BitSet.new.Goals as goal
 
