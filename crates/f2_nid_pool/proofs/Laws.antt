@@ -88,7 +88,7 @@ IsPool-take limit live base logged taken nid is found =
           contains-insert nat_cmp_total taken.members nid n
           ∙ ap (λ t. e || t) (is.is_taken n h)
           ∙ or_first e (set.contains live.members n) rest
-          ∙ sym (ap (λ x. x || rest) (contains-insert nat_cmp_total live.members nid n))
+          ∙ sym (ap (λ x. x || rest) (contains-insert nat_cmp_total live.members nid n));
     }
 
 -- to take over a nid of an image
@@ -107,7 +107,7 @@ IsPool-adopt limit live base logged taken nid is high = record {
       contains-insert nat_cmp_total taken.members nid n
       ∙ ap (λ t. e || t) (is.is_taken n h)
       ∙ or_second e (set.contains live.members n) (set.contains base.members n) rest
-      ∙ sym (ap (λ x. x || (set.contains (set.insert base.members nid) n || rest)) (contains-insert nat_cmp_total live.members nid n) ∙ ap (λ x. (e || set.contains live.members n) || (x || rest)) (contains-insert nat_cmp_total base.members nid n))
+      ∙ sym (ap (λ x. x || (set.contains (set.insert base.members nid) n || rest)) (contains-insert nat_cmp_total live.members nid n) ∙ ap (λ x. (e || set.contains live.members n) || (x || rest)) (contains-insert nat_cmp_total base.members nid n));
 }
 
 -- to log a nid
@@ -125,7 +125,7 @@ IsPool-logged limit live base logged taken nid is = record {
       contains-insert nat_cmp_total taken.members nid n
       ∙ ap (λ t. e || t) (is.is_taken n h)
       ∙ or_third e (set.contains live.members n) (set.contains base.members n) (set.contains logged.members n) (nat_lt n 4)
-      ∙ sym (ap (λ x. set.contains live.members n || (set.contains base.members n || (x || nat_lt n 4))) (contains-insert nat_cmp_total logged.members nid n))
+      ∙ sym (ap (λ x. set.contains live.members n || (set.contains base.members n || (x || nat_lt n 4))) (contains-insert nat_cmp_total logged.members nid n));
 }
 
 -- what is left after a removal was there before
@@ -171,7 +171,7 @@ IsPool-give_free limit live base logged taken nid is there ne not_base not_logge
       contains-remove nat_cmp_total taken.members nid n
       ∙ ap (λ t. not e && t) (is.is_taken n h)
       ∙ and_first e (set.contains live.members n) rest (λ same. none_holds base.members logged.members nid n (tied n nid same) (omega (arith, is.above nid there, ne)) not_base not_logged)
-      ∙ sym (ap (λ x. x || rest) (contains-remove nat_cmp_total live.members nid n))
+      ∙ sym (ap (λ x. x || rest) (contains-remove nat_cmp_total live.members nid n));
 }
 
 -- to give back a nid that the base or the log holds
@@ -189,7 +189,7 @@ IsPool-give_held limit live base logged taken nid is there ne held = record {
       let rest = set.contains base.members n || (set.contains logged.members n || nat_lt n 4) in
       is.is_taken n h
       ∙ or_kept e (set.contains live.members n) rest (λ same. one_holds base.members logged.members nid n (tied n nid same) held)
-      ∙ sym (ap (λ x. x || rest) (contains-remove nat_cmp_total live.members nid n))
+      ∙ sym (ap (λ x. x || rest) (contains-remove nat_cmp_total live.members nid n));
 }
 
 -- all that can't be drawn once a checkpoint is done
@@ -201,12 +201,12 @@ taken_then : (s : set.FinSet nat_cmp) → set.contains s 3 ≡ true → (n : ℕ
 taken_then s root n =
     elim (cases_eq n 3) as (λ _. set.contains (set.insert (set.insert (set.insert s 0) 1) 2) n ≡ (set.contains s n || nat_lt n 4)) [
       | inl same ↦
-        contains-insert_kept _ 2 n (contains-insert_kept _ 1 n (contains-insert_kept s 0 n (ap (set.contains s) same ∙ root)))
-        ∙ sym (ap (λ b. b || nat_lt n 4) (ap (set.contains s) same ∙ root))
+          contains-insert_kept _ 2 n (contains-insert_kept _ 1 n (contains-insert_kept s 0 n (ap (set.contains s) same ∙ root)))
+          ∙ sym (ap (λ b. b || nat_lt n 4) (ap (set.contains s) same ∙ root))
       | inr other ↦
-        contains-insert nat_cmp_total _ 2 n
-        ∙ ap (λ b. eq_by_cmp nat_cmp n 2 || b) (contains-insert nat_cmp_total _ 1 n ∙ ap (λ b. eq_by_cmp nat_cmp n 1 || b) (contains-insert nat_cmp_total s 0 n))
-        ∙ grind (arith, nat_tests, unsigned_tied n 0, unsigned_tied n 1, unsigned_tied n 2)
+          contains-insert nat_cmp_total _ 2 n
+          ∙ ap (λ b. eq_by_cmp nat_cmp n 2 || b) (contains-insert nat_cmp_total _ 1 n ∙ ap (λ b. eq_by_cmp nat_cmp n 1 || b) (contains-insert nat_cmp_total s 0 n))
+          ∙ grind (arith, nat_tests, unsigned_tied n 0, unsigned_tied n 1, unsigned_tied n 2)
     ]
 
 or_twice : (a c : Bool) → (a || c) ≡ (a || (a || (false || c)))
@@ -226,7 +226,7 @@ IsPool-committed limit live logged enough first count first' count' root above =
   is_taken = λ n h.
       taken_then live.members root n
       ∙ or_twice (set.contains live.members n) (nat_lt n 4)
-      ∙ sym (ap (λ g. set.contains live.members n || (set.contains live.members n || (g || nat_lt n 4))) (contains-empty nat_cmp n))
+      ∙ sym (ap (λ g. set.contains live.members n || (set.contains live.members n || (g || nat_lt n 4))) (contains-empty nat_cmp n));
 }
 
 -- the set that has the root alone
@@ -245,6 +245,6 @@ IsPool-full limit live base logged taken is full n below from =
     elim (cases_eq n 3) as (λ _. (set.contains live.members n || (set.contains base.members n || set.contains logged.members n)) ≡ true) [
       | inl same ↦ ap (λ b. b || (set.contains base.members n || set.contains logged.members n)) (ap (set.contains live.members) same ∙ is.root)
       | inr other ↦
-        let high : nat_lt n 4 ≡ false = grind (arith, nat_tests) in
-        drop_false (set.contains live.members n) (set.contains base.members n) (set.contains logged.members n) (nat_lt n 4) high (sym (full n (omega (arith, is.taken_over.0), omega (arith, is.taken_over.0, is.taken_over.1))) ∙ is.is_taken n below)
+          let high : nat_lt n 4 ≡ false = grind (arith, nat_tests) in
+          drop_false (set.contains live.members n) (set.contains base.members n) (set.contains logged.members n) (nat_lt n 4) high (sym (full n (omega (arith, is.taken_over.0), omega (arith, is.taken_over.0, is.taken_over.1))) ∙ is.is_taken n below)
     ]

@@ -149,31 +149,3 @@ fn take_all_of(taken: &mut BitSet, live: &BitSet)
     taken.insert(1);
     taken.insert(2);
 }
-
-#[cfg(test)]
-mod tests {
-    use super::*;
-    use std::test::Fail;
-
-    #[test]
-    fn draws_the_least(rt: HostRuntime) -> Result<(), Fail> {
-        let mut pool = Pool::new(rt.alloc(), 455)?;
-        assert_eq!(rt; pool.take(), Some(4));
-        assert_eq!(rt; pool.take(), Some(5));
-        assert_eq!(rt; pool.take(), Some(6));
-        pool.adopt(7);
-        pool.adopt(9);
-        assert_eq!(rt; pool.take(), Some(8));
-        assert_eq!(rt; pool.take(), Some(10));
-        pool.logged(11);
-        assert_eq!(rt; pool.take(), Some(12));
-        pool.committed();
-        assert_eq!(rt; pool.take(), Some(11));
-        let Some(nid) = pool.take() else {
-            return Ok(());
-        };
-        pool.give(nid);
-        assert_eq!(rt; pool.take(), Some(13));
-        Ok(())
-    }
-}

@@ -244,33 +244,3 @@ fn take_least(used: &mut BitSet, other: &mut BitSet) -> u32
     other.insert(at);
     at
 }
-
-#[cfg(test)]
-mod tests {
-    use super::*;
-    use std::test::Fail;
-
-    #[test]
-    fn data_zone(rt: HostRuntime) -> Result<(), Fail> {
-        let mut zone = Zone::new(rt.alloc(), 37, 9)?;
-        assert_eq!(rt; zone.reserve(10), Err(Room));
-        assert_eq!(rt; zone.reserve(9), Ok(()));
-        assert_eq!(rt; zone.take_log(), None);
-        Ok(())
-    }
-
-    #[test]
-    fn takes_the_least(rt: HostRuntime) -> Result<(), Fail> {
-        let mut zone = Zone::new(rt.alloc(), 37, 9)?;
-        zone.adopt(38);
-        assert_eq!(rt; zone.take_cp(), 37);
-        assert_eq!(rt; zone.take_cp(), 39);
-        zone.release(38);
-        assert_eq!(rt; zone.used(38), true);
-        assert_eq!(rt; zone.start(), 38);
-        zone.committed();
-        assert_eq!(rt; zone.draw(), 38);
-        assert_eq!(rt; zone.logged(), 0);
-        Ok(())
-    }
-}
