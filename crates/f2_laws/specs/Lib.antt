@@ -1,0 +1,3 @@
+-- What the definitions of the abstract machine come to: statements about them that hold for every tree, state and call.
+pub mod Rolling
+pub mod Refusals

@@ -1,0 +1,5 @@
+//! Laws of the abstract machine: what the definitions of trees, calls, states and events come to.
+#![tactic(auto)]
+
+pub mod refusals;
+pub mod rolling;
