@@ -1,3 +1,4 @@
 pub mod Maps
 pub mod RolledRows
 pub mod RefusedCalls
+pub mod Survivors

@@ -1,0 +1,37 @@
+-- What a crash may leave of a state, and what events do to it.
+use Rattle.std.specs.Prelude.{◌≡◌, ℕ, ◌≤◌, ◌⊎◌, ◌↔◌, Bool, true, false, IsTrue, List, ◌++◌}
+use Rattle.std.specs.List.{list_any}
+use Rattle.f2_model.specs.Tree.{Rows}
+use Rattle.f2_model.specs.Call.{Limits}
+use Rattle.f2_model.specs.State.{State, Mark, MayRemain}
+use Rattle.f2_model.specs.Step.{Event, Faults, Turn, Step, crashed}
+use Rattle.f2_model.specs.declared.histories.Entry.{Entry}
+use Rattle.f2_model.specs.declared.histories.Entry.TheVariants.{CpDone, Mounted}
+
+-- a crash changes nothing of what a crash may leave, so any number of crashes leave what one may
+abbrev pub CrashesLeaveTheSame : Type 0
+CrashesLeaveTheSame = (state : State) (base : Rows) (marks : List Mark) → MayRemain (crashed state).after base marks ↔ MayRemain state base marks
+
+-- an entry that tells the end of a checkpoint, and one that tells what a mount found
+abbrev pub is_checkpoint_done : Entry → Bool
+is_checkpoint_done (CpDone seat) = true
+is_checkpoint_done _ = false
+
+abbrev pub is_mounted : Entry → Bool
+is_mounted (Mounted rows) = true
+is_mounted _ = false
+
+-- nothing durable is lost from a state to a later one: the base stays, marks only join, and acknowledged ones stay so
+pub record KeepsDurable (before after : State) : Type 0 where
+  pub base : after.base ≡ before.base
+  pub marks : (more : List Mark) × (after.marks ≡ before.marks ++ more)
+  pub acknowledged : before.acknowledged ≤ after.acknowledged
+
+-- an event loses nothing durable, unless a checkpoint is done in it or a mount finds its tree; and what a mount finds is what a crash may leave
+abbrev pub EventsKeepDurable : Type 0
+EventsKeepDurable =
+    (limits : Limits) (faults : Faults) (state : State) (event : Event) (turn : Turn) →
+    Step limits faults state event turn →
+    KeepsDurable state turn.after
+    ⊎ IsTrue (list_any is_checkpoint_done turn.entries)
+    ⊎ (IsTrue (list_any is_mounted turn.entries) × MayRemain state turn.after.base turn.after.marks)
