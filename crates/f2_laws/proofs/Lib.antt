@@ -2,3 +2,4 @@ pub mod Maps
 pub mod RolledRows
 pub mod RefusedCalls
 pub mod Survivors
+pub mod SameTurns

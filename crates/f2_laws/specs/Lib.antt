@@ -2,3 +2,4 @@
 pub mod Rolling
 pub mod Refusals
 pub mod Survival
+pub mod Choice

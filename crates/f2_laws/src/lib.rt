@@ -1,6 +1,7 @@
 //! Laws of the abstract machine: what the definitions of trees, calls, states and events come to.
 #![tactic(auto)]
 
+pub mod choice;
 pub mod refusals;
 pub mod rolling;
 pub mod survival;
