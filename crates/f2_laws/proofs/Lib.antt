@@ -3,3 +3,5 @@ pub mod RolledRows
 pub mod RefusedCalls
 pub mod Survivors
 pub mod SameTurns
+pub mod Missing
+pub mod FreeInos

@@ -3,3 +3,4 @@ pub mod Rolling
 pub mod Refusals
 pub mod Survival
 pub mod Choice
+pub mod Room

@@ -4,4 +4,5 @@
 pub mod choice;
 pub mod refusals;
 pub mod rolling;
+pub mod room;
 pub mod survival;
