@@ -28,10 +28,10 @@ some_len false n h = omega arith
 none_empty : (s : set.FinSet nat_cmp) (k : ℕ) → set.contains s k ≡ true → 1 ≤ set.len s
 none_empty s k h = by_len (set.len s) refl
   where
-  by_len : (n : ℕ) → set.len s ≡ n → 1 ≤ n
-  by_len zero e =
-      let empty : set.contains s k ≡ false = ap (λ t. set.contains t k) (set.empty_of_len s e) ∙ set.contains-empty nat_cmp k in cc
-  by_len (suc n) e = omega arith
+    by_len : (n : ℕ) → set.len s ≡ n → 1 ≤ n
+    by_len zero e =
+        let empty : set.contains s k ≡ false = ap (λ t. set.contains t k) (set.empty_of_len s e) ∙ set.contains-empty nat_cmp k in cc
+    by_len (suc n) e = omega arith
 
 node_count-some : (pages : List ℕ) → 1 ≤ node_count pages
 unfolding nodes_over
@@ -88,10 +88,9 @@ module _ (state : State) (k : ℕ) where
   is_not_taken : map.get state.live k ≡ None → map.get state.base k ≡ None → set.contains state.logged k ≡ false → has k (taken state) ≡ false
   is_not_taken live base logged =
       has_taken ∙ all_three _ _ _
-        (sym (map.contains_key-keys state.live k) ∙ ap (λ o. is_some o) live)
-        (sym (map.contains_key-keys state.base k) ∙ ap (λ o. is_some o) base)
-        (sym ((listed state.logged).1.members k) ∙ logged)
-
+      (sym (map.contains_key-keys state.live k) ∙ ap (λ o. is_some o) live)
+      (sym (map.contains_key-keys state.base k) ∙ ap (λ o. is_some o) base)
+      (sym ((listed state.logged).1.members k) ∙ logged)
 
 -- what is taken is no more than three times what is granted, and the root is taken
 few_taken : (limits : Limits) (state : State) → IsWithinLimits limits state → length (taken state) < limits.nids - 3
@@ -111,19 +110,22 @@ free_ino_found limits state within =
     let from : 3 ≤ k = m.above in
     let to : k < 3 + (limits.nids - 3) = m.below in
     let free = not_taken state k m.missing in
-    let other : k ≢ ROOT = λ same. root_missing k same free.0 in
-    (k, record {
-      free = record { above = omega arith; below = omega arith; no_row = free.0; no_base_row = free.1; not_logged = free.2 };
-      least = λ j is. at_least k j m (is.above) (is_not_taken state j is.no_row is.no_base_row is.not_logged);
-    })
+    let other : k ≢ ROOT = λ same. root_missing k same free.0 in (
+      k,
+      record {
+        free = record { above = omega arith; below = omega arith; no_row = free.0; no_base_row = free.1; not_logged = free.2 };
+        least = λ j is. at_least k j m (is.above) (is_not_taken state j is.no_row is.no_base_row is.not_logged);
+      },
+    )
   where
-  root_missing : (k : ℕ) → k ≡ ROOT → map.get state.live k ≡ None → ⊥
-  root_missing k same none =
-      let there : map.get state.live ROOT ≡ Some within.root.0 = within.root.1 in
-      let gone : map.get state.live ROOT ≡ None = sym (ap (λ i. map.get state.live i) same) ∙ none in cc
-  at_least : (k j : ℕ) → IsMissing 3 (limits.nids - 3) (taken state) k → 4 ≤ j → has j (taken state) ≡ false → k ≤ j
-  at_least k j m from free = by_order (leb_tells k j)
-    where
-    by_order : ((leb k j ≡ true) × (k ≤ j)) ⊎ ((leb k j ≡ false) × (j < k)) → k ≤ j
-    by_order (inl le) = le.1
-    by_order (inr lt) = absurd (true≢false (sym (m.least j (omega arith) lt.1) ∙ free))
+    root_missing : (k : ℕ) → k ≡ ROOT → map.get state.live k ≡ None → ⊥
+    root_missing k same none =
+        let there : map.get state.live ROOT ≡ Some within.root.0 = within.root.1 in
+        let gone : map.get state.live ROOT ≡ None = sym (ap (λ i. map.get state.live i) same) ∙ none in cc
+
+    at_least : (k j : ℕ) → IsMissing 3 (limits.nids - 3) (taken state) k → 4 ≤ j → has j (taken state) ≡ false → k ≤ j
+    at_least k j m from free = by_order (leb_tells k j)
+      where
+        by_order : ((leb k j ≡ true) × (k ≤ j)) ⊎ ((leb k j ≡ false) × (j < k)) → k ≤ j
+        by_order (inl le) = le.1
+        by_order (inr lt) = absurd (true≢false (sym (m.least j (omega arith) lt.1) ∙ free))

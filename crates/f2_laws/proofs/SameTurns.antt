@@ -67,7 +67,7 @@ or_fails p f g one other alike a (inr b) = absurd (g other alike.other_faultless
 module _ (limits : Limits) (faults later : Faults) (state : State) where
   gives_ino : (seat : ℕ) (request : Request) →
       Decides (λ turn. (ino : ℕ) × IsFreeIno limits state ino × (turn ≡ Step.did state seat request (answer state.live request) (ino ∷ []) (Step.called state request ino)))
-        (λ turn. (ino : ℕ) × IsFreeIno limits state ino × (turn ≡ Step.did state seat request (answer state.live request) (ino ∷ []) (Step.called state request ino)))
+      (λ turn. (ino : ℕ) × IsFreeIno limits state ino × (turn ≡ Step.did state seat request (answer state.live request) (ino ∷ []) (Step.called state request ino)))
   gives_ino seat request one other alike p q =
       let chosen : (p.0 ∷ []) ≡ (q.0 ∷ []) = sym (ap (λ (turn : Turn). turn.choices) p.2) ∙ alike.chose.choices ∙ ap (λ (turn : Turn). turn.choices) q.2 in
       let same : p.0 ≡ q.0 = cc in
@@ -78,13 +78,13 @@ module _ (limits : Limits) (faults later : Faults) (state : State) where
 
   serves_other : (seat : ℕ) (request : Request) (want : Option Reply) →
       Decides (λ turn. MatchOption want (TakesEffect limits state seat request turn ⊎ ReadFails faults state seat request turn) (λ refused. turn ≡ Step.did state seat request refused [] state))
-        (λ turn. MatchOption want (TakesEffect limits state seat request turn ⊎ ReadFails later state seat request turn) (λ refused. turn ≡ Step.did state seat request refused [] state))
+      (λ turn. MatchOption want (TakesEffect limits state seat request turn ⊎ ReadFails later state seat request turn) (λ refused. turn ≡ Step.did state seat request refused [] state))
   serves_other seat request want =
       by_option want
-        (or_fails (takes_effect seat request)
-          (λ turn faultless p. fails _ refl p.1 faultless)
-          (λ turn faultless p. fails _ refl p.1 faultless))
-        (λ refused. outright _)
+      (or_fails (takes_effect seat request)
+      (λ turn faultless p. fails _ refl p.1 faultless)
+      (λ turn faultless p. fails _ refl p.1 faultless))
+      (λ refused. outright _)
 
   begins_check : (seat : ℕ) (request : Request) (plan : Plan) → Decides (BeginsCheck state seat request plan) (BeginsCheck state seat request plan)
   begins_check seat request plan = by_option (Step.least_in_flight state) (outright _) (λ by. outright _)
@@ -124,12 +124,12 @@ module _ (limits : Limits) (faults later : Faults) (state : State) where
   fsync : (seat ino : ℕ) (stage : Stage) (part : Part) → Decides (StepFsync faults state seat ino stage part) (StepFsync later state seat ino stage part)
   fsync seat ino stage InPages =
       by_option (Step.least_of state.dirty_pages ino)
-        (flushes faults later state seat Step.step_failed _ refl)
-        (λ page. writes faults later seat Step.step_failed _ refl)
+      (flushes faults later state seat Step.step_failed _ refl)
+      (λ page. writes faults later seat Step.step_failed _ refl)
   fsync seat ino stage InNodes =
       by_option (Step.least_of state.dirty_nodes ino)
-        (by_option (map.get state.live ino) no_row (λ row. writes faults later seat Step.step_failed _ refl))
-        (λ offset. writes faults later seat Step.step_failed _ refl)
+      (by_option (map.get state.live ino) no_row (λ row. writes faults later seat Step.step_failed _ refl))
+      (λ offset. writes faults later seat Step.step_failed _ refl)
   fsync seat ino stage Marked = flushes faults later state seat Step.step_failed _ refl
 
   -- a checkpoint that wrote a block, and one that wrote its tail
@@ -157,7 +157,7 @@ module _ (limits : Limits) (faults later : Faults) (state : State) where
 
   before_tail : (seat : ℕ) →
       Decides (λ turn. Step.WritesBlock faults state seat turn ⊎ Writes faults seat Step.step_failed (tail seat) turn)
-        (λ turn. Step.WritesBlock later state seat turn ⊎ Writes later seat Step.step_failed (tail seat) turn)
+      (λ turn. Step.WritesBlock later state seat turn ⊎ Writes later seat Step.step_failed (tail seat) turn)
   before_tail seat one other alike (inl p) (inl q) = wrote_block faults seat one alike.one_faultless p ∙ sym (wrote_block later seat other alike.other_faultless q)
   before_tail seat one other alike (inr p) (inr q) = wrote_tail faults seat one alike.one_faultless p ∙ sym (wrote_tail later seat other alike.other_faultless q)
   before_tail seat one other alike (inl p) (inr q) = absurd (apart seat one other alike.chose.told (wrote_block faults seat one alike.one_faultless p) (wrote_tail later seat other alike.other_faultless q))
@@ -186,8 +186,8 @@ module _ (limits : Limits) (faults later : Faults) (state : State) where
       (by_bool (is_some (Step.checking_seat state)) (outright _)
       (by_bool (Step.is_clean state) (outright _)
       (by_option (Step.least_thawed state state.dirty_pages)
-        (by_option (Step.least_thawed state state.dirty_nodes) (outright _) ticks_node)
-        ticks_page))))
+      (by_option (Step.least_thawed state state.dirty_nodes) (outright _) ticks_node)
+      ticks_page))))
 
   -- what a mount without a failure finds: marks, or the pending tree
   abbrev Finds : Turn → Type 0
@@ -195,7 +195,7 @@ module _ (limits : Limits) (faults later : Faults) (state : State) where
 
   finds : (counts : Faults) (turn : Turn) → IsFaultless turn →
       FindsMarks state turn ⊎ FindsPending state turn ⊎ Step.MountFails counts state Step.ReadFailed kind.Read turn ⊎ Step.MountFails counts state Step.WriteFailed kind.Flush turn
-        ⊎ (turn ≡ Step.unchanged state (Step.NotMounted Step.BadImage)) ⊎ (turn ≡ Step.unchanged state (Step.NotMounted Step.NoMemory)) →
+      ⊎ (turn ≡ Step.unchanged state (Step.NotMounted Step.BadImage)) ⊎ (turn ≡ Step.unchanged state (Step.NotMounted Step.NoMemory)) →
       Finds turn
   finds counts turn faultless (inl h) = inl h
   finds counts turn faultless (inr (inl h)) = inr h
@@ -210,7 +210,7 @@ module _ (limits : Limits) (faults later : Faults) (state : State) where
   same_marks : Decides (FindsMarks state) (FindsMarks state)
   same_marks one other alike p q =
       let told : Some (length (take p.0 state.marks)) ≡ Some (length (take q.0 state.marks)) =
-        sym (ap (λ (turn : Turn). choice_told turn.answer) p.3) ∙ alike.chose.told ∙ ap (λ (turn : Turn). choice_told turn.answer) q.3 in
+      sym (ap (λ (turn : Turn). choice_told turn.answer) p.3) ∙ alike.chose.told ∙ ap (λ (turn : Turn). choice_told turn.answer) q.3 in
       let lengths : length (take p.0 state.marks) ≡ length (take q.0 state.marks) = cc in
       let same : p.0 ≡ q.0 = sym (length-take-le p.0 state.marks p.2) ∙ lengths ∙ length-take-le q.0 state.marks q.2 in
       p.3 ∙ ap found_marks same ∙ sym q.3
@@ -239,7 +239,7 @@ module _ (limits : Limits) (faults later : Faults) (state : State) where
   mount : Decides (StepMount faults state) (StepMount later state)
   mount =
       by_bool (not (Step.is_shut state.mode)) (outright _)
-        (λ one other alike p q. same_finds one other alike (finds faults one alike.one_faultless p) (finds later other alike.other_faultless q))
+      (λ one other alike p q. same_finds one other alike (finds faults one alike.one_faultless p) (finds later other alike.other_faultless q))
 
   unmount : Decides (Step.StepUnmount state) (Step.StepUnmount state)
   unmount =

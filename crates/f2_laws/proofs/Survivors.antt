@@ -101,9 +101,9 @@ module _ (limits : Limits) (faults : Faults) (state : State) (turn : Turn) where
   takes_effect seat request h =
       let keeps = λ (ino : ℕ). called_keeps state request ino in
       by_bool (adds_row request)
-        (λ one. kept state turn _ (record { base = (keeps one.0).base; marks = (keeps one.0).marks; acknowledged = (keeps one.0).acknowledged }) one.2)
-        (λ e. kept state turn _ (record { base = (keeps 0).base; marks = (keeps 0).marks; acknowledged = (keeps 0).acknowledged }) e)
-        h
+      (λ one. kept state turn _ (record { base = (keeps one.0).base; marks = (keeps one.0).marks; acknowledged = (keeps one.0).acknowledged }) one.2)
+      (λ e. kept state turn _ (record { base = (keeps 0).base; marks = (keeps 0).marks; acknowledged = (keeps 0).acknowledged }) e)
+      h
 
   serves_other : (seat : ℕ) (request : Request) (want : Option Reply) → MatchOption want (TakesEffect limits state seat request turn ⊎ ReadFails faults state seat request turn) (λ refused. turn ≡ Step.did state seat request refused [] state) → Survives state turn
   serves_other seat request None (inl h) = takes_effect seat request h
@@ -145,17 +145,17 @@ module _ (limits : Limits) (faults : Faults) (state : State) (turn : Turn) where
   fsync : (seat ino : ℕ) (stage : Stage) (part : Part) → StepFsync faults state seat ino stage part turn → Survives state turn
   fsync seat ino stage InPages h =
       by_option (Step.least_of state.dirty_pages ino)
-        (flushes state turn faults seat Step.step_failed _ (inl (same state _ refl refl refl)))
-        (λ page. writes state turn faults seat Step.step_failed _ (same state _ refl refl refl)) h
+      (flushes state turn faults seat Step.step_failed _ (inl (same state _ refl refl refl)))
+      (λ page. writes state turn faults seat Step.step_failed _ (same state _ refl refl refl)) h
   fsync seat ino stage InNodes h =
       by_option (Step.least_of state.dirty_nodes ino)
-        (by_option (map.get state.live ino) (λ never. absurd never)
-          (λ row. writes state turn faults seat Step.step_failed (Step.marked state seat ino row)
-            (record { base = refl; marks = (record { ino = ino; row = row } ∷ [], refl); acknowledged = omega arith })))
-        (λ offset. writes state turn faults seat Step.step_failed _ (same state _ refl refl refl)) h
+      (by_option (map.get state.live ino) (λ never. absurd never)
+      (λ row. writes state turn faults seat Step.step_failed (Step.marked state seat ino row)
+      (record { base = refl; marks = (record { ino = ino; row = row } ∷ [], refl); acknowledged = omega arith })))
+      (λ offset. writes state turn faults seat Step.step_failed _ (same state _ refl refl refl)) h
   fsync seat ino stage Marked h =
       flushes state turn faults seat Step.step_failed (Step.acknowledges state seat ino stage)
-        (inl (record { base = refl; marks = ([], sym (append-nil state.marks)); acknowledged = omega arith })) h
+      (inl (record { base = refl; marks = ([], sym (append-nil state.marks)); acknowledged = omega arith })) h
 
   -- the end of a checkpoint leaves its entry
   completes_tells : (seat : ℕ) (b : Bool) → IsTrue (list_any is_checkpoint_done (if b then (entry.CpDone seat ∷ entry.Unmounted ∷ []) else (entry.CpDone seat ∷ [])))
@@ -165,12 +165,12 @@ module _ (limits : Limits) (faults : Faults) (state : State) (turn : Turn) where
   check : (seat : ℕ) (plan : Plan) → StepCheck faults state seat plan turn → Survives state turn
   check seat plan h =
       by_option state.pending
-        (by_either
-          (by_either
-            (writes state turn faults seat Step.step_failed _ (same state _ refl refl refl))
-            (flushes state turn faults seat Step.step_failed _ (inl (same state _ refl refl refl))))
-          (writes state turn faults seat Step.step_failed _ (same state _ refl refl refl)))
-        (λ tree. flushes state turn faults seat Step.step_failed (Step.completes state seat plan) (inr (inl (completes_tells seat (is_unmount state seat))))) h
+      (by_either
+      (by_either
+      (writes state turn faults seat Step.step_failed _ (same state _ refl refl refl))
+      (flushes state turn faults seat Step.step_failed _ (inl (same state _ refl refl refl))))
+      (writes state turn faults seat Step.step_failed _ (same state _ refl refl refl)))
+      (λ tree. flushes state turn faults seat Step.step_failed (Step.completes state seat plan) (inr (inl (completes_tells seat (is_unmount state seat))))) h
 
   flight : (seat : ℕ) (one : Flight) → StepFlight faults state seat one turn → Survives state turn
   flight seat (InFsync ino stage) h = fsync seat ino stage stage.part h
@@ -179,7 +179,7 @@ module _ (limits : Limits) (faults : Faults) (state : State) (turn : Turn) where
   go : (seat : ℕ) → Step.StepGo faults state seat turn → Survives state turn
   go seat h =
       by_option (map.get state.flights seat) (still state turn _ refl refl refl)
-        (λ one. by_bool (Step.is_shut state.mode) (still state turn _ refl refl refl) (flight seat one)) h
+      (λ one. by_bool (Step.is_shut state.mode) (still state turn _ refl refl refl) (flight seat one)) h
 
   ticks_page : (page : ℕ × ℕ) → Step.TicksPage limits faults state page turn → Survives state turn
   ticks_page page h =
@@ -196,8 +196,8 @@ module _ (limits : Limits) (faults : Faults) (state : State) (turn : Turn) where
       (by_bool (is_some (Step.checking_seat state)) (still state turn _ refl refl refl)
       (by_bool (Step.is_clean state) (still state turn _ refl refl refl)
       (by_option (Step.least_thawed state state.dirty_pages)
-        (by_option (Step.least_thawed state state.dirty_nodes) (still state turn _ refl refl refl) ticks_node)
-        ticks_page)))) h
+      (by_option (Step.least_thawed state state.dirty_nodes) (still state turn _ refl refl refl) ticks_node)
+      ticks_page)))) h
 
   -- what a mount finds is what a crash may leave
   finds_marks : FindsMarks state turn → Survives state turn
@@ -211,13 +211,13 @@ module _ (limits : Limits) (faults : Faults) (state : State) (turn : Turn) where
   mount h =
       by_bool (not (Step.is_shut state.mode)) (still state turn _ refl refl refl) mounting h
     where
-    mounting : FindsMarks state turn ⊎ FindsPending state turn ⊎ Step.MountFails faults state Step.ReadFailed kind.Read turn ⊎ Step.MountFails faults state Step.WriteFailed kind.Flush turn ⊎ (turn ≡ Step.unchanged state (Step.NotMounted Step.BadImage)) ⊎ (turn ≡ Step.unchanged state (Step.NotMounted Step.NoMemory)) → Survives state turn
-    mounting (inl h) = finds_marks h
-    mounting (inr (inl h)) = finds_pending_of state.pending refl h
-    mounting (inr (inr (inl h))) = still state turn _ refl refl refl h.1
-    mounting (inr (inr (inr (inl h)))) = still state turn _ refl refl refl h.1
-    mounting (inr (inr (inr (inr (inl h))))) = still state turn _ refl refl refl h
-    mounting (inr (inr (inr (inr (inr h))))) = still state turn _ refl refl refl h
+      mounting : FindsMarks state turn ⊎ FindsPending state turn ⊎ Step.MountFails faults state Step.ReadFailed kind.Read turn ⊎ Step.MountFails faults state Step.WriteFailed kind.Flush turn ⊎ (turn ≡ Step.unchanged state (Step.NotMounted Step.BadImage)) ⊎ (turn ≡ Step.unchanged state (Step.NotMounted Step.NoMemory)) → Survives state turn
+      mounting (inl h) = finds_marks h
+      mounting (inr (inl h)) = finds_pending_of state.pending refl h
+      mounting (inr (inr (inl h))) = still state turn _ refl refl refl h.1
+      mounting (inr (inr (inr (inl h)))) = still state turn _ refl refl refl h.1
+      mounting (inr (inr (inr (inr (inl h))))) = still state turn _ refl refl refl h
+      mounting (inr (inr (inr (inr (inr h))))) = still state turn _ refl refl refl h
 
   unmount : Step.StepUnmount state turn → Survives state turn
   unmount h =

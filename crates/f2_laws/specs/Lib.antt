@@ -4,3 +4,4 @@ pub mod Refusals
 pub mod Survival
 pub mod Choice
 pub mod Room
+pub mod Goodness

@@ -5,5 +5,4 @@ ghost use Rattle.f2_laws.specs.Choice.{ChoicesDecide};
 /// answer, its entries and the state after it, whatever the disk's counts of faults.
 pub fn choices_decide()
     ensures { ChoicesDecide }
-{
-}
+{}

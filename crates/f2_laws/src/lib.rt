@@ -2,6 +2,7 @@
 #![tactic(auto)]
 
 pub mod choice;
+pub mod goodness;
 pub mod refusals;
 pub mod rolling;
 pub mod room;

@@ -7,5 +7,4 @@ pub fn refusals_leave_the_tree()
     ensures refused { RefusalLeavesTheTree }
     ensures space { WantOfSpaceLeavesTheTree }
     ensures readers { ReadersLeaveTheTree }
-{
-}
+{}

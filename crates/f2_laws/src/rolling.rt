@@ -6,5 +6,4 @@ pub fn marks_roll_in_order()
     ensures none { NoMarkLeavesTheBase }
     ensures more { MarksRollInTurn }
     ensures last { LastMarkIsThere }
-{
-}
+{}

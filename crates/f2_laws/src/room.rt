@@ -5,5 +5,4 @@ ghost use Rattle.f2_laws.specs.Room.{RowsTakeNodes, FreeInoIsThere};
 pub fn free_ino_is_there()
     ensures nodes { RowsTakeNodes }
     ensures free { FreeInoIsThere }
-{
-}
+{}

@@ -6,5 +6,4 @@ ghost use Rattle.f2_laws.specs.Survival.{CrashesLeaveTheSame, EventsKeepDurable}
 pub fn durable_rows_survive()
     ensures crashes { CrashesLeaveTheSame }
     ensures events { EventsKeepDurable }
-{
-}
+{}
