@@ -1,13 +1,13 @@
 -- The effect of each call that isn't refused, but a rename's, keeps a tree good.
-use Rattle.std.proofs.Common.{◌≡◌, ◌≢◌, ◌⊎◌, inl, inr, ℕ, zero, suc, ◌+◌, ◌*◌, ◌<◌, ◌≤◌, Bool, true, false, not, IsTrue, ◌||◌, List, [], ◌∷◌, ◌++◌, length, refl, sym, ap, subst, ◌∙◌, arith, true≢false}
-use Rattle.std.specs.Prelude.{Option, Some, None, Result, Ok, Err, is_ok, if◌then◌else◌, slice_index, ◌==◌}
+use Rattle.std.proofs.Common.{◌≡◌, ◌≢◌, ◌⊎◌, inl, inr, ℕ, suc, ◌≤◌, true, false, not, IsTrue, ◌||◌, List, [], ◌∷◌, ◌++◌, length, refl, sym, ap, subst, ◌∙◌, arith, true≢false}
+use Rattle.std.specs.Prelude.{Option, Some, None, Result, Ok, Err, is_ok, if◌then◌else◌, ◌==◌}
 use Rattle.std.specs.List.{list_any}
 use Rattle.std.specs.FinMap as map
 use Rattle.std.proofs.lemmas.Bool.{ltb-false, eqb-false, ne_eqb, eq-eqb}
-use Rattle.f2_model.specs.Content.{PAGE, PageMap, put_pieces, raised_size, cut_pages}
+use Rattle.f2_model.specs.Content.{PageMap, put_pieces, raised_size, cut_pages}
 use Rattle.f2_model.specs.Names.{is_good_name, is_good_path}
-use Rattle.f2_model.specs.Tree.{Rows, ROOT, MOST_DEPTH, IsGoodTree, IsAtDepth, HasGoodPages, most_depth, is_directory, is_in, names_of, walk, parent_path, last_name}
-use Rattle.f2_model.specs.Call.{Limits, refusal, space_refusal, answer, or_refused, effect, on_row, new_row, to_directory, walk_parent, row_passes, goes_below, puts_too_deep, is_root_path, first_refusal, refusal_of}
+use Rattle.f2_model.specs.Tree.{Rows, ROOT, MOST_DEPTH, IsGoodTree, IsAtDepth, HasGoodPages, most_depth, is_directory, is_in, walk, parent_path, last_name}
+use Rattle.f2_model.specs.Call.{Limits, refusal, space_refusal, answer, or_refused, effect, on_row, new_row, to_directory, walk_parent, row_passes, goes_below, puts_too_deep, is_root_path, refusal_of}
 use Rattle.f2_model.specs.Step.{adds_row}
 use Rattle.f2_laws.specs.Goodness.{CallsKeepTreesGood}
 use Rattle.f2_laws.proofs.Moves.{IsBelow, goes_on, path_begins, kept_or_below, moved_reached}
@@ -21,11 +21,11 @@ use Rattle.f2_model.specs.declared.replies.Reply.{Reply}
 use Rattle.f2_model.specs.declared.replies.Reply.TheVariants.{NotDir}
 use Rattle.f2_laws.proofs.Maps.{get_put, get_put-other}
 use Rattle.f2_laws.proofs.Values.{no_value}
-use Rattle.f2_laws.proofs.Walks.{some_same, some_none, Leads, depth-leads, length-turned_onto, turned_onto, Ends, walk_ends}
-use Rattle.f2_laws.proofs.Places.{same_or_other, put_or_other, IsAlike, good_changed, Fits, good_placed, good_without, depth_kept}
+use Rattle.f2_laws.proofs.Walks.{some_same, some_none, Leads, depth-leads, length-turned_onto, turned_onto, walk_ends}
+use Rattle.f2_laws.proofs.Places.{same_or_other, put_or_other, good_changed, Fits, good_placed, good_without, depth_kept}
 use Rattle.f2_laws.proofs.Passed.{Passed, passed, none_first, walk_ok, directory_ok, regular, kinds_differ, not_false, either_false}
 use Rattle.f2_laws.proofs.Names.{name_free, path_parts, not_the_root, parent_length, good_last, path_length}
-use Rattle.f2_laws.proofs.Contents.{AreGoodPages, IsGoodPage, good_pieces, raised-le, raised_ends, raised_within, good_raised, good_cut}
+use Rattle.f2_laws.proofs.Contents.{AreGoodPages, good_pieces, raised-le, raised_ends, raised_within, good_raised, good_cut}
 
 -- the pages of a good row, and a good file's row from its pages
 pages_of_row : (most : ℕ) (row : Row) → HasGoodPages most row → AreGoodPages row.size row.pages

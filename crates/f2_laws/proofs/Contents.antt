@@ -1,12 +1,11 @@
 -- Pages stay good when pieces are put into a file, and when it is cut.
-use Rattle.std.proofs.Common.{◌≡◌, ◌≢◌, ◌⊎◌, inl, inr, ℕ, zero, suc, ◌+◌, ◌-◌, ◌*◌, ◌/◌, ◌%◌, ◌<◌, ◌≤◌, Bool, true, false, cond, List, [], ◌∷◌, ◌++◌, length, take, drop, get_or, refl, sym, ap, subst, ◌∙◌, arith, true≢false, append_assoc, length-append, length-take, length-drop, min, max, replicate, nat_lt}
+use Rattle.std.proofs.Common.{◌≡◌, ◌≢◌, ◌⊎◌, inl, inr, ℕ, zero, suc, ◌+◌, ◌-◌, ◌*◌, ◌/◌, ◌%◌, ◌<◌, ◌≤◌, Bool, true, false, cond, List, [], ◌∷◌, ◌++◌, length, take, drop, get_or, refl, sym, ap, subst, ◌∙◌, arith, append_assoc, length-append, length-take, length-drop, min, max, replicate, nat_lt}
 use Rattle.std.specs.Prelude.{Option, Some, None, if◌then◌else◌, ◌==◌, slice_index, is_some}
 use Rattle.std.specs.Option.{unwrap_or}
 use Rattle.std.specs.List.{fold, list_any, range_with_len, AllByRecursion}
-use Rattle.std.proofs.lemmas.List.{length-replicate, get_or-replicate, get_or-append_right, get_or_append_left, get_or-drop}
-use Rattle.std.specs.Ordering.{nat_cmp}
+use Rattle.std.proofs.lemmas.List.{length-replicate, get_or-append_right, get_or-drop}
 use Rattle.std.specs.FinMap as map
-use Rattle.f2_model.specs.Content.{PAGE, PageMap, zero_page, page_of, filled, end_of, pages_of_piece, put_in_page, put_piece, put_pieces, raised_size, begins_before, cut_pages}
+use Rattle.f2_model.specs.Content.{PAGE, PageMap, zero_page, page_of, filled, end_of, put_in_page, put_piece, put_pieces, raised_size, begins_before, cut_pages}
 use Rattle.f2_model.specs.declared.requests.Piece.{Piece}
 use Rattle.f2_laws.proofs.Maps.{get_put, get_put-other}
 use Rattle.f2_laws.proofs.Walks.{some_same, some_none}

@@ -1,10 +1,10 @@
 -- The numbers that are taken are fewer than the numbers that there are.
-use Rattle.std.proofs.Common.{◌≡◌, ◌≢◌, ◌⊎◌, inl, inr, ◌-◌, ℕ, zero, suc, ◌+◌, ◌*◌, ◌<◌, ◌≤◌, Bool, true, false, cond, ◌||◌, List, [], ◌∷◌, ◌++◌, length, map as map_list, refl, sym, ap, ◌∙◌, arith, length-append, true≢false}
+use Rattle.std.proofs.Common.{◌≡◌, ◌≢◌, ◌⊎◌, inl, inr, ◌-◌, ℕ, zero, suc, ◌+◌, ◌<◌, ◌≤◌, Bool, true, false, cond, ◌||◌, List, [], ◌∷◌, ◌++◌, length, refl, sym, ap, ◌∙◌, arith, length-append, true≢false}
 use Rattle.std.proofs.lemmas.List.{length-map}
 use Rattle.std.proofs.lemmas.Bool.Decides.{leb_tells}
 use Rattle.std.proofs.Math.Dec.{leb}
 use Rattle.std.specs.Prelude.{Option, Some, None, is_some}
-use Rattle.std.specs.List.{list_any, sum_by, flat_map}
+use Rattle.std.specs.List.{sum_by, flat_map}
 use Rattle.std.proofs.lemmas.List.Folds.{list_any-append}
 use Rattle.std.proofs.lemmas.List.Sums.{sum_by-cons}
 use Rattle.std.specs.Ordering.{nat_cmp, eq_by_cmp}
@@ -12,12 +12,12 @@ use Rattle.std.specs.Cmp.{nat_cmp_total}
 use Rattle.std.specs.FinMap as map
 use Rattle.std.specs.FinSet as set
 use Rattle.f2_format.specs.Offsets.{nodes_over, node_count, nodes_of_page}
-use Rattle.f2_model.specs.Tree.{Rows, ROOT}
+use Rattle.f2_model.specs.Tree.{ROOT}
 use Rattle.f2_model.specs.Count.{nodes_of_tree, nodes_of_row, page_numbers}
 use Rattle.f2_model.specs.Call.{Limits}
-use Rattle.f2_model.specs.State.{State, IsFreeIno}
+use Rattle.f2_model.specs.State.{State}
 use Rattle.f2_model.specs.declared.rows.Row.{Row}
-use Rattle.f2_laws.specs.Room.{RowsTakeNodes, IsWithinLimits, IsLeastFreeIno, FreeInoIsThere}
+use Rattle.f2_laws.specs.Room.{RowsTakeNodes, IsWithinLimits, FreeInoIsThere}
 use Rattle.f2_laws.proofs.Missing.{has, IsMissing, least_missing, listed}
 
 -- each file has a node, its inode

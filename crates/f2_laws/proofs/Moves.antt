@@ -1,7 +1,6 @@
 -- Where the rows of a tree stand after one of them was moved.
-use Rattle.std.proofs.Common.{◌≡◌, ◌≢◌, ◌⊎◌, inl, inr, ℕ, zero, suc, ◌+◌, ◌<◌, ◌≤◌, Bool, true, false, not, ◌&&◌, ◌||◌, List, [], ◌∷◌, ◌++◌, length, take, refl, sym, ap, subst, ◌∙◌, arith, true≢false, append_assoc, length-append}
-use Rattle.std.specs.Prelude.{Option, Some, None, Result, Ok, Err, if◌then◌else◌, ◌==◌, nat_lt}
-use Rattle.std.specs.List.{list_any, starts_with}
+use Rattle.std.proofs.Common.{◌≡◌, ◌≢◌, ◌⊎◌, inl, inr, ℕ, zero, suc, ◌+◌, ◌<◌, ◌≤◌, true, false, ◌&&◌, List, [], ◌∷◌, ◌++◌, length, take, refl, sym, ap, subst, ◌∙◌, arith, append_assoc, length-append}
+use Rattle.std.specs.Prelude.{Option, Some, None, if◌then◌else◌, ◌==◌, nat_lt}
 use Rattle.std.specs.Cmp.Lexicographic.{pointwise}
 use Rattle.std.specs.FinMap as map
 use Rattle.std.proofs.lemmas.List.{append-nil, take-append-le}
@@ -9,13 +8,13 @@ use Rattle.std.proofs.Math.Seq.{take-length}
 use Rattle.std.proofs.lemmas.Bool.{eq-eqb, ne_eqb, ltb-false, lt-ltb}
 use Rattle.f2_model.specs.Names.{same_name}
 use Rattle.f2_model.specs.Tree.{Rows, ROOT, MOST_DEPTH, IsGoodTree, IsAtDepth, most_depth, is_directory}
-use Rattle.f2_model.specs.Call.{steps_up, one_more, is_too_deep, puts_too_deep, goes_below}
+use Rattle.f2_model.specs.Call.{steps_up, is_too_deep, puts_too_deep, goes_below}
 use Rattle.f2_model.specs.declared.rows.Row.{Row}
 use Rattle.f2_model.specs.declared.rows.Kind.{Kind}
 use Rattle.f2_model.specs.declared.rows.Kind.TheVariants.{Regular, Directory}
-use Rattle.f2_laws.proofs.Maps.{get_put, get_put-other}
+use Rattle.f2_laws.proofs.Maps.{get_put-other}
 use Rattle.f2_laws.proofs.Values.{no_value}
-use Rattle.f2_laws.proofs.Walks.{some_same, some_none, Leads, leads_once, turned_onto}
+use Rattle.f2_laws.proofs.Walks.{some_same, Leads, leads_once, turned_onto}
 use Rattle.f2_laws.proofs.Places.{same_or_other}
 use Rattle.f2_laws.proofs.Names.{same_name-refl}
 

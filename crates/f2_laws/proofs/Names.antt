@@ -1,9 +1,9 @@
 -- The last name of a path, and whether it is free in its directory.
-use Rattle.std.proofs.Common.{◌≡◌, ◌≢◌, ◌⊎◌, inl, inr, ℕ, zero, suc, ◌+◌, ◌-◌, ◌<◌, ◌≤◌, Bool, true, false, not, IsTrue, ◌&&◌, ◌||◌, List, [], ◌∷◌, ◌++◌, length, take, get_or, refl, sym, ap, subst, ◌∙◌, arith, true≢false, nat_eq, length-append}
-use Rattle.std.specs.Prelude.{Option, Some, None, Result, Ok, Err, is_ok, if◌then◌else◌, ◌==◌, nat_le}
-use Rattle.std.specs.List.{list_any, list_all, find}
+use Rattle.std.proofs.Common.{◌≡◌, ◌≢◌, ℕ, suc, ◌+◌, ◌-◌, ◌<◌, ◌≤◌, Bool, true, false, ◌&&◌, ◌||◌, List, [], ◌∷◌, ◌++◌, length, take, refl, sym, ap, ◌∙◌, arith, true≢false, length-append}
+use Rattle.std.specs.Prelude.{Option, Some, None, Ok, Err, is_ok, if◌then◌else◌, ◌==◌, nat_le}
+use Rattle.std.specs.List.{list_any, list_all}
 use Rattle.std.specs.FinMap as map
-use Rattle.std.specs.Cmp.Lexicographic.{other_text, pointwise}
+use Rattle.std.specs.Cmp.Lexicographic.{other_text}
 use Rattle.std.proofs.lemmas.Bool.{eq-eqb, ne_eqb, leb-true}
 use Rattle.std.proofs.lemmas.List.{take_more}
 use Rattle.std.proofs.Math.Seq.{take-length}
@@ -11,12 +11,9 @@ use Rattle.std.proofs.lemmas.List.Folds.{list_all-append}
 use Rattle.f2_model.specs.Names.{same_name, is_good_name, is_good_path}
 use Rattle.f2_model.specs.Tree.{Rows, ROOT, IsGoodTree, is_directory, stands_at, child, walked, walk, or_no_entry, parent_path, last_name}
 use Rattle.f2_model.specs.declared.rows.Row.{Row}
-use Rattle.f2_model.specs.declared.rows.Kind.{Kind}
-use Rattle.f2_model.specs.declared.rows.Kind.TheVariants.{Regular, Directory}
-use Rattle.f2_model.specs.declared.replies.Reply.{Reply}
+use Rattle.f2_model.specs.declared.rows.Kind.TheVariants.{Directory}
 use Rattle.f2_model.specs.declared.replies.Reply.TheVariants.{NotDir}
 use Rattle.f2_laws.proofs.Values.{none_found}
-use Rattle.f2_laws.proofs.Walks.{some_same, some_none}
 use Rattle.f2_laws.proofs.Passed.{both_true}
 
 pub same_name-refl : (name : List ℕ) → same_name name name ≡ true

@@ -1,9 +1,9 @@
 -- What a call that isn't refused has passed.
-use Rattle.std.proofs.Common.{◌≡◌, ◌≢◌, ℕ, ◌+◌, ◌-◌, ◌<◌, ◌≤◌, Bool, true, false, not, cond, ◌&&◌, ◌||◌, List, [], ◌∷◌, ◌++◌, length, take, get_or, refl, sym, ap, subst, ◌∙◌, arith, true≢false}
-use Rattle.std.specs.Prelude.{Option, Some, None, Result, Ok, Err, is_ok, if◌then◌else◌}
+use Rattle.std.proofs.Common.{◌≡◌, Bool, true, false, not, ◌&&◌, ◌||◌, List, ◌∷◌, refl, sym, true≢false}
+use Rattle.std.specs.Prelude.{Option, Some, None, Result, Ok, Err, if◌then◌else◌}
 use Rattle.std.specs.Bool.{then_some}
-use Rattle.f2_model.specs.Tree.{Rows, is_directory, walk, or_no_entry}
-use Rattle.f2_model.specs.Call.{Limits, refusal, first_refusal, refusal_of, to_directory, has_bad_name, walk_refusal, names_directory, name_is_there, has_entries, is_too_big, row_passes}
+use Rattle.f2_model.specs.Tree.{Rows, is_directory}
+use Rattle.f2_model.specs.Call.{Limits, refusal, first_refusal, refusal_of, to_directory, has_bad_name, walk_refusal, names_directory, name_is_there, has_entries, is_too_big}
 use Rattle.f2_model.specs.declared.rows.Row.{Row}
 use Rattle.f2_model.specs.declared.rows.Kind.{Kind}
 use Rattle.f2_model.specs.declared.rows.Kind.TheVariants.{Regular, Directory}

@@ -1,15 +1,13 @@
 -- A tree stays good when a row changes in its place, comes to a new one, or goes.
-use Rattle.std.proofs.Common.{◌≡◌, ◌≢◌, ◌⊎◌, inl, inr, ℕ, zero, suc, ◌≤◌, Bool, true, false, IsTrue, List, [], ◌∷◌, refl, sym, ap, subst, ◌∙◌, arith}
-use Rattle.std.specs.Prelude.{Option, Some, None}
-use Rattle.std.specs.Ordering.{nat_cmp}
+use Rattle.std.proofs.Common.{◌≡◌, ◌≢◌, ◌⊎◌, inl, inr, ℕ, zero, suc, ◌≤◌, true, false, IsTrue, refl, sym, ap, subst, ◌∙◌}
+use Rattle.std.specs.Prelude.{Some}
 use Rattle.std.specs.FinMap as map
 use Rattle.std.proofs.lemmas.Bool.Decides.{eqb_tells}
 use Rattle.std.proofs.Math.Dec.{eqb}
 use Rattle.f2_model.specs.Names.{is_good_name}
-use Rattle.f2_model.specs.Tree.{Rows, ROOT, IsGoodTree, IsAtDepth, IsRoot, HasGoodPages, most_depth}
+use Rattle.f2_model.specs.Tree.{Rows, ROOT, IsGoodTree, IsAtDepth, HasGoodPages, most_depth}
 use Rattle.f2_model.specs.declared.rows.Row.{Row}
-use Rattle.f2_model.specs.declared.rows.Kind.{Kind}
-use Rattle.f2_model.specs.declared.rows.Kind.TheVariants.{Regular, Directory}
+use Rattle.f2_model.specs.declared.rows.Kind.TheVariants.{Directory}
 use Rattle.f2_laws.proofs.Maps.{get_put, get_put-other, get_taken, get_taken-other}
 use Rattle.f2_laws.proofs.Walks.{some_same, some_none}
 

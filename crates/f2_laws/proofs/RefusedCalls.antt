@@ -1,9 +1,8 @@
 -- A refusal decides the whole outcome, and some calls have no effect on the tree.
-use Rattle.std.proofs.Common.{◌≡◌, ℕ, refl, ap, ◌∙◌}
+use Rattle.std.proofs.Common.{◌≡◌, refl, ap, ◌∙◌}
 use Rattle.std.specs.Prelude.{Option, Some, None}
 use Rattle.f2_model.specs.Tree.{Rows}
-use Rattle.f2_model.specs.Call.{Limits, refusal, effect, answer, space_refusal, or_refused, outcome}
-use Rattle.f2_model.specs.declared.requests.Request.{Request}
+use Rattle.f2_model.specs.Call.{refusal, effect, answer, space_refusal, or_refused}
 use Rattle.f2_model.specs.declared.requests.Request.TheVariants.{Read, List as ListNames, Fsync, Sync}
 use Rattle.f2_model.specs.declared.replies.Reply.{Reply}
 use Rattle.f2_laws.specs.Refusals.{RefusalLeavesTheTree, WantOfSpaceLeavesTheTree, ReadersLeaveTheTree}

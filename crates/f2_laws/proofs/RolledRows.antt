@@ -1,6 +1,5 @@
 -- Marks roll one after another.
-use Rattle.std.proofs.Common.{◌≡◌, List, [], ◌∷◌, ◌++◌, refl, ap, ◌∙◌}
-use Rattle.std.specs.Prelude.{Some}
+use Rattle.std.proofs.Common.{[], ◌∷◌, refl, ap, ◌∙◌}
 use Rattle.std.specs.FinMap as map
 use Rattle.f2_model.specs.State.{rolled}
 use Rattle.f2_laws.specs.Rolling.{MarksRollInTurn, LastMarkIsThere}

@@ -1,12 +1,12 @@
 -- Two faultless turns of one event that chose alike are the same.
-use Rattle.std.proofs.Common.{◌≡◌, ◌⊎◌, inl, inr, ℕ, ◌≤◌, Bool, true, false, not, nat_le, List, [], ◌∷◌, length, take, refl, sym, ap, subst, ◌∙◌, arith, rules}
+use Rattle.std.proofs.Common.{◌≡◌, ◌⊎◌, inl, inr, ℕ, Bool, true, false, not, nat_le, List, [], ◌∷◌, length, take, refl, sym, ap, ◌∙◌}
 use Rattle.std.specs.Prelude.{Option, Some, None, Result, Ok, Err, MatchOption, is_some}
 use Rattle.std.specs.Bool.{MatchBool}
 use Rattle.std.proofs.lemmas.List.{length-take-le}
 use Rattle.std.specs.FinMap as map
 use Rattle.f2_model.specs.Tree.{Rows, walk}
 use Rattle.f2_model.specs.Call.{Limits, refusal, answer}
-use Rattle.f2_model.specs.State.{State, Mark, Part, InPages, InNodes, Marked, Stage, Flight, InFsync, InCheck, IsFreeIno}
+use Rattle.f2_model.specs.State.{State, Part, InPages, InNodes, Marked, Stage, Flight, InFsync, InCheck, IsFreeIno}
 use Rattle.f2_model.specs.Fallback.{fallback}
 use Rattle.f2_model.specs.Step
 use Rattle.f2_model.specs.Step.{Event, Begin, Go, Tick, Mount, Unmount, Crash, Faults, Turn, Answer, Writes, Flushes, StepBegin, Serves, BeginsFsync, BeginsCheck, TakesEffect, ReadFails, StepFsync, StepCheck, StepFlight, StepMount, FindsMarks, FindsPending, adds_row}

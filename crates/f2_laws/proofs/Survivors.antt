@@ -1,5 +1,5 @@
 -- Every event but the end of a checkpoint and a mount keeps the base and the marks.
-use Rattle.std.proofs.Common.{◌≡◌, ◌⊎◌, inl, inr, ℕ, not, nat_le, rules, ◌+◌, ◌≤◌, Bool, true, false, IsTrue, List, [], ◌∷◌, ◌++◌, take, refl, sym, subst, arith}
+use Rattle.std.proofs.Common.{◌≡◌, ◌⊎◌, inl, inr, ℕ, not, nat_le, rules, Bool, true, false, IsTrue, [], ◌∷◌, take, refl, sym, subst, arith}
 use Rattle.std.specs.Prelude.{Option, Some, None, Result, Ok, Err, MatchOption, is_some, if◌then◌else◌}
 use Rattle.std.specs.Bool.{MatchBool}
 use Rattle.std.specs.List.{list_any}
@@ -7,7 +7,7 @@ use Rattle.std.proofs.lemmas.List.{append-nil}
 use Rattle.std.specs.FinMap as map
 use Rattle.f2_model.specs.Tree.{Rows, walk}
 use Rattle.f2_model.specs.Call.{Limits, effect, refusal}
-use Rattle.f2_model.specs.State.{State, Mark, MayRemain, Part, InPages, InNodes, Marked, Stage, Flight, InFsync, InCheck, Shut, Up, marked_dirty, with_rows, with_row}
+use Rattle.f2_model.specs.State.{State, Part, InPages, InNodes, Marked, Stage, Flight, InFsync, InCheck, marked_dirty, with_rows, with_row}
 use Rattle.f2_model.specs.Step
 use Rattle.f2_model.specs.Fallback.{fallback}
 use Rattle.f2_model.specs.Step.{Event, Begin, Go, Tick, Mount, Unmount, Crash, Faults, Turn, Answer, Writes, Flushes, StepBegin, Serves, BeginsFsync, BeginsCheck, TakesEffect, ReadFails, StepFsync, StepCheck, StepFlight, StepMount, FindsMarks, FindsPending, called, closed_by_fault, is_unmount, adds_row}
@@ -19,7 +19,7 @@ use Rattle.f2_model.specs.declared.replies.Plan.{Plan}
 use Rattle.f2_model.specs.declared.replies.Plan.TheVariants as plan
 use Rattle.f2_model.specs.declared.histories.Entry.TheVariants as entry
 use Rattle.f2_model.specs.declared.histories.CallKind.TheVariants as kind
-use Rattle.f2_laws.specs.Survival.{KeepsDurable, is_checkpoint_done, is_mounted, EventsKeepDurable, CrashesLeaveTheSame}
+use Rattle.f2_laws.specs.Survival.{KeepsDurable, IsCheckpointed, IsFound, is_checkpoint_done, is_mounted, EventsKeepDurable, CrashesLeaveTheSame}
 
 pub crashes_leave : CrashesLeaveTheSame
 crashes_leave state base marks = (λ h. h, λ h. h)
@@ -28,8 +28,8 @@ crashes_leave state base marks = (λ h. h, λ h. h)
 abbrev Survives : State → Turn → Type 0
 Survives state turn =
     KeepsDurable state turn.after
-    ⊎ IsTrue (list_any is_checkpoint_done turn.entries)
-    ⊎ (IsTrue (list_any is_mounted turn.entries) × MayRemain state turn.after.base turn.after.marks)
+    ⊎ (IsTrue (list_any is_checkpoint_done turn.entries) × IsCheckpointed state turn.after)
+    ⊎ (IsTrue (list_any is_mounted turn.entries) × IsFound state turn.after)
 
 -- a state whose base, marks and acknowledged place are the same
 same : (state after : State) → after.base ≡ state.base → after.marks ≡ state.marks → after.acknowledged ≡ state.acknowledged → KeepsDurable state after
@@ -170,7 +170,7 @@ module _ (limits : Limits) (faults : Faults) (state : State) (turn : Turn) where
       (writes state turn faults seat Step.step_failed _ (same state _ refl refl refl))
       (flushes state turn faults seat Step.step_failed _ (inl (same state _ refl refl refl))))
       (writes state turn faults seat Step.step_failed _ (same state _ refl refl refl)))
-      (λ tree. flushes state turn faults seat Step.step_failed (Step.completes state seat plan) (inr (inl (completes_tells seat (is_unmount state seat))))) h
+      (λ tree. flushes state turn faults seat Step.step_failed (Step.completes state seat plan) (inr (inl (completes_tells seat (is_unmount state seat), record { base = refl; live = refl; marks = refl })))) h
 
   flight : (seat : ℕ) (one : Flight) → StepFlight faults state seat one turn → Survives state turn
   flight seat (InFsync ino stage) h = fsync seat ino stage stage.part h
@@ -201,11 +201,11 @@ module _ (limits : Limits) (faults : Faults) (state : State) (turn : Turn) where
 
   -- what a mount finds is what a crash may leave
   finds_marks : FindsMarks state turn → Survives state turn
-  finds_marks h = is state turn (Step.found state state.base (take h.0 state.marks) 0) (inr (inr (search rules, inl (h.0, h.1, h.2, refl, refl)))) h.3
+  finds_marks h = is state turn (Step.found state state.base (take h.0 state.marks) 0) (inr (inr (search rules, record { remained = inl (h.0, h.1, h.2, refl, refl); live = refl; acknowledged = refl }))) h.3
 
   finds_pending_of : (pending : Option Rows) → state.pending ≡ pending → MatchOption pending ⊥ (λ tree. turn ≡ Step.found state tree [] 1) → Survives state turn
   finds_pending_of None e h = absurd h
-  finds_pending_of (Some tree) e h = is state turn (Step.found state tree [] 1) (inr (inr (search rules, inr (e, refl)))) h
+  finds_pending_of (Some tree) e h = is state turn (Step.found state tree [] 1) (inr (inr (search rules, record { remained = inr (e, refl); live = refl; acknowledged = refl }))) h
 
   mount : StepMount faults state turn → Survives state turn
   mount h =

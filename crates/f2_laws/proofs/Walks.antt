@@ -1,18 +1,15 @@
 -- Where walks lead in a good tree: to rows of it, and each row is reached by one path.
-use Rattle.std.proofs.Common.{◌≡◌, ◌≢◌, ℕ, zero, suc, ◌+◌, ◌-◌, ◌<◌, ◌≤◌, Bool, true, false, cond, ◌||◌, ◌&&◌, List, [], ◌∷◌, ◌++◌, length, take, get_or, refl, sym, ap, subst, ◌∙◌, arith, true≢false, nat_eq}
-use Rattle.std.specs.Prelude.{Option, Some, None, Result, Ok, Err, if◌then◌else◌, is_ok, ◌==◌}
-use Rattle.std.specs.List.{list_any, find}
+use Rattle.std.proofs.Common.{◌≡◌, ◌≢◌, ℕ, ◌+◌, Bool, true, false, ◌||◌, ◌&&◌, List, [], ◌∷◌, length, refl, sym, ap, subst, ◌∙◌, arith, true≢false}
+use Rattle.std.specs.Prelude.{Option, Some, None, Ok, Err, if◌then◌else◌, ◌==◌}
+use Rattle.std.specs.List.{list_any}
 use Rattle.std.specs.FinMap as map
 use Rattle.std.specs.Cmp.Lexicographic.{same_text}
 use Rattle.std.proofs.lemmas.Bool.{eqb-true, eqb-false}
 use Rattle.f2_model.specs.Names.{same_name}
-use Rattle.f2_model.specs.Tree.{Rows, ROOT, IsGoodTree, IsAtDepth, is_directory, names_of, stands_at, child, walked, walk, or_no_entry}
+use Rattle.f2_model.specs.Tree.{Rows, ROOT, IsGoodTree, IsAtDepth, is_directory, stands_at, child, walked, walk, or_no_entry}
 use Rattle.f2_model.specs.declared.rows.Row.{Row}
-use Rattle.f2_model.specs.declared.rows.Kind.{Kind}
-use Rattle.f2_model.specs.declared.rows.Kind.TheVariants.{Regular, Directory}
-use Rattle.f2_model.specs.declared.replies.Reply.{Reply}
 use Rattle.f2_model.specs.declared.replies.Reply.TheVariants.{NotDir}
-use Rattle.f2_laws.proofs.Values.{value_found, none_found}
+use Rattle.f2_laws.proofs.Values.{value_found}
 
 pub some_same : {A : Type 0} {x y : A} → Some x ≡ Some y → x ≡ y
 some_same e = cc

@@ -1,9 +1,9 @@
 -- What a crash may leave of a state, and what events do to it.
-use Rattle.std.specs.Prelude.{◌≡◌, ℕ, ◌≤◌, ◌⊎◌, ◌↔◌, Bool, true, false, IsTrue, List, ◌++◌}
+use Rattle.std.specs.Prelude.{◌≡◌, ◌≤◌, ◌⊎◌, ◌↔◌, Bool, true, false, IsTrue, List, [], ◌++◌, length}
 use Rattle.std.specs.List.{list_any}
 use Rattle.f2_model.specs.Tree.{Rows}
 use Rattle.f2_model.specs.Call.{Limits}
-use Rattle.f2_model.specs.State.{State, Mark, MayRemain}
+use Rattle.f2_model.specs.State.{State, Mark, MayRemain, rolled}
 use Rattle.f2_model.specs.Step.{Event, Faults, Turn, Step, crashed}
 use Rattle.f2_model.specs.declared.histories.Entry.{Entry}
 use Rattle.f2_model.specs.declared.histories.Entry.TheVariants.{CpDone, Mounted}
@@ -27,11 +27,23 @@ pub record KeepsDurable (before after : State) : Type 0 where
   pub marks : (more : List Mark) × (after.marks ≡ before.marks ++ more)
   pub acknowledged : before.acknowledged ≤ after.acknowledged
 
--- an event loses nothing durable, unless a checkpoint is done in it or a mount finds its tree; and what a mount finds is what a crash may leave
+-- a checkpoint is done: the tree that calls see is the base, and no mark is left
+pub record IsCheckpointed (before after : State) : Type 0 where
+  pub base : after.base ≡ before.live
+  pub live : after.live ≡ before.live
+  pub marks : after.marks ≡ []
+
+-- a mount found what a crash may leave, and has rolled its marks over its base; all of them count as acknowledged
+pub record IsFound (before after : State) : Type 0 where
+  pub remained : MayRemain before after.base after.marks
+  pub live : after.live ≡ rolled after.base after.marks
+  pub acknowledged : after.acknowledged ≡ length after.marks
+
+-- an event loses nothing durable, unless it ends a checkpoint or is a mount that finds a tree, and its entries tell which
 abbrev pub EventsKeepDurable : Type 0
 EventsKeepDurable =
     (limits : Limits) (faults : Faults) (state : State) (event : Event) (turn : Turn) →
     Step limits faults state event turn →
     KeepsDurable state turn.after
-    ⊎ IsTrue (list_any is_checkpoint_done turn.entries)
-    ⊎ (IsTrue (list_any is_mounted turn.entries) × MayRemain state turn.after.base turn.after.marks)
+    ⊎ (IsTrue (list_any is_checkpoint_done turn.entries) × IsCheckpointed state turn.after)
+    ⊎ (IsTrue (list_any is_mounted turn.entries) × IsFound state turn.after)
