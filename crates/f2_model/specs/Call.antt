@@ -10,6 +10,7 @@ use Rattle.f2_model.specs.Names.{same_name, is_good_path}
 use Rattle.f2_model.specs.Content.{bytes_between, put_pieces, raised_size, cut_pages, end_of}
 use Rattle.f2_model.specs.Tree.{Rows, MOST_DEPTH, is_directory, is_in, walk, parent_path, last_name, names_in}
 use Rattle.f2_model.specs.Count.{nodes_of_tree, data_of_tree}
+pub use Rattle.f2_model.specs.declared.bounds.Limits.{Limits}
 use Rattle.f2_model.specs.declared.rows.Row.{Row}
 use Rattle.f2_model.specs.declared.rows.Kind.{Kind}
 use Rattle.f2_model.specs.declared.rows.Kind.TheVariants.{Regular, Directory}
@@ -20,13 +21,6 @@ use Rattle.f2_model.specs.declared.replies.Space.{Space}
 use Rattle.f2_model.specs.declared.replies.Space.TheVariants.{Node, Data}
 use Rattle.f2_model.specs.declared.replies.Reply.{Reply}
 use Rattle.f2_model.specs.declared.replies.Reply.TheVariants.{Done, Bytes, Names, BadName, NotDir, IsDir, Exists, NotEmpty, TooBig, NoSpace}
-
--- what an image grants: live nodes, live data blocks, numbers of nodes (the free ones are below it), and the size of a file
-pub record Limits : Type 0 where
-  pub nodes : ℕ
-  pub data_blocks : ℕ
-  pub nids : ℕ
-  pub size : ℕ
 
 -- the first refusal that there is
 abbrev pub first_refusal : List (Option Reply) → Option Reply

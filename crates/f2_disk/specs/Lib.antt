@@ -1,0 +1,5 @@
+pub mod Contents
+pub mod Faults
+pub mod Meter
+pub mod Pick
+pub mod Streams

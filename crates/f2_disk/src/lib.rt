@@ -1,0 +1,23 @@
+//! What the node manager stands on: a stream of bytes in, a stream of bytes out, and a disk of blocks.
+//!
+//! Each is a trait with a count of faults, and a call fails only where that count rose in it. A [`Disk`] is seen as
+//! one list of contents per block, the newest last, and as a meter of five numbers. The layer above needs one rule,
+//! `IsWithin`: calls that make at most n writes of a disk on which no stop is planned, and which has room for n,
+//! meet no more faults than were planned.
+//!
+//! `specs/Contents.antt` says what a disk holds, what a write and a flush change and what a crash may leave,
+//! `specs/Meter.antt` has the meter and `IsWithin`, `specs/Pick.antt` how a bench picks what a crash leaves, and
+//! `specs/Faults.antt` and `specs/Streams.antt` what counts of faults and streams mean.
+#![tactic(auto)]
+
+mod bench;
+mod disk;
+mod sink;
+mod source;
+mod sure_source;
+
+pub use bench::{Bench, CallKind};
+pub use disk::{Block, Disk, DiskFault};
+pub use sink::Sink;
+pub use source::{Failed, Source};
+pub use sure_source::SureSource;

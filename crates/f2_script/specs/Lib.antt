@@ -1,0 +1,5 @@
+-- Scripts: what a line looks like, which lines a script has, and how answers and trees are printed.
+pub mod Text
+pub mod Lines
+pub mod Grammar
+pub mod Cuts

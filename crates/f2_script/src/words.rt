@@ -1,0 +1,37 @@
+//! Words and numbers of a line.
+ghost use Rattle.std.specs.Prelude.{◌≡◌, ◌==◌, ◌≤◌, position, decimal, MatchOption};
+ghost use Rattle.f2_script.specs.Cuts.{Finds, Lacks, IsCutAt};
+
+use itoa::Buffer;
+use std::str;
+
+fn place_of(text: &[u8], byte: u8) -> Option<usize>
+    ensures { result ≡ position (λ b. b == byte) text.now }
+{
+    text.iter().position(|b| *b == byte)
+}
+
+/// What stands before the first such byte, and what stands after it.
+pub fn cut_at(text: &[u8], byte: u8) -> Option<(&[u8], &[u8])>
+    ensures { MatchOption result (Lacks byte text.now) (λ x. IsCutAt byte text.now x.0.now x.1.now) }
+{
+    let at = place_of(text, byte)?;
+    Some((&text[..at], &text[at + 1..]))
+}
+
+/// The number that the text is, up to a limit. With a sign or a leading zero it is none.
+pub fn number(text: &[u8], limit: u64) -> Option<u64>
+    ensures { Finds (λ n. (n ≤ limit) × (text.now ≡ decimal n)) result }
+{
+    let Ok(digits) = str::from_utf8(text) else {
+        return None;
+    };
+    let Ok(number) = digits.parse::<u64>() else {
+        return None;
+    };
+    if number <= limit && Buffer::new().format(number).as_bytes() == text {
+        Some(number)
+    } else {
+        None
+    }
+}
