@@ -14,7 +14,7 @@ use Rattle.std.specs.FinSet as set
 use Rattle.f2_format.specs.Offsets.{nodes_over, node_count, nodes_of_page}
 use Rattle.f2_model.specs.Tree.{ROOT}
 use Rattle.f2_model.specs.Count.{nodes_of_tree, nodes_of_row, page_numbers}
-use Rattle.f2_model.specs.Call.{Limits}
+use Rattle.f2_model.specs.declared.bounds.Limits.{Limits}
 use Rattle.f2_model.specs.State.{State}
 use Rattle.f2_model.specs.declared.rows.Row.{Row}
 use Rattle.f2_laws.specs.Room.{RowsTakeNodes, IsWithinLimits, FreeInoIsThere}

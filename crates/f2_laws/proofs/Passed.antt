@@ -3,7 +3,8 @@ use Rattle.std.proofs.Common.{◌≡◌, Bool, true, false, not, ◌&&◌, ◌||
 use Rattle.std.specs.Prelude.{Option, Some, None, Result, Ok, Err, if◌then◌else◌}
 use Rattle.std.specs.Bool.{then_some}
 use Rattle.f2_model.specs.Tree.{Rows, is_directory}
-use Rattle.f2_model.specs.Call.{Limits, refusal, first_refusal, refusal_of, to_directory, has_bad_name, walk_refusal, names_directory, name_is_there, has_entries, is_too_big}
+use Rattle.f2_model.specs.Call.{refusal, first_refusal, refusal_of, to_directory, has_bad_name, walk_refusal, names_directory, name_is_there, has_entries, is_too_big}
+use Rattle.f2_model.specs.declared.bounds.Limits.{Limits}
 use Rattle.f2_model.specs.declared.rows.Row.{Row}
 use Rattle.f2_model.specs.declared.rows.Kind.{Kind}
 use Rattle.f2_model.specs.declared.rows.Kind.TheVariants.{Regular, Directory}

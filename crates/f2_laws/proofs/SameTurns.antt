@@ -5,7 +5,8 @@ use Rattle.std.specs.Bool.{MatchBool}
 use Rattle.std.proofs.lemmas.List.{length-take-le}
 use Rattle.std.specs.FinMap as map
 use Rattle.f2_model.specs.Tree.{Rows, walk}
-use Rattle.f2_model.specs.Call.{Limits, refusal, answer}
+use Rattle.f2_model.specs.Call.{refusal, answer}
+use Rattle.f2_model.specs.declared.bounds.Limits.{Limits}
 use Rattle.f2_model.specs.State.{State, Part, InPages, InNodes, Marked, Stage, Flight, InFsync, InCheck, IsFreeIno}
 use Rattle.f2_model.specs.Fallback.{fallback}
 use Rattle.f2_model.specs.Step

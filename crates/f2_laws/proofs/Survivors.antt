@@ -6,7 +6,8 @@ use Rattle.std.specs.List.{list_any}
 use Rattle.std.proofs.lemmas.List.{append-nil}
 use Rattle.std.specs.FinMap as map
 use Rattle.f2_model.specs.Tree.{Rows, walk}
-use Rattle.f2_model.specs.Call.{Limits, effect, refusal}
+use Rattle.f2_model.specs.Call.{effect, refusal}
+use Rattle.f2_model.specs.declared.bounds.Limits.{Limits}
 use Rattle.f2_model.specs.State.{State, Part, InPages, InNodes, Marked, Stage, Flight, InFsync, InCheck, marked_dirty, with_rows, with_row}
 use Rattle.f2_model.specs.Step
 use Rattle.f2_model.specs.Fallback.{fallback}

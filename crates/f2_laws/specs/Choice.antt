@@ -1,6 +1,6 @@
 -- What an event leaves open, and what decides it.
 use Rattle.std.specs.Prelude.{◌≡◌, ℕ, Bool, true, false, Option, Some, None}
-use Rattle.f2_model.specs.Call.{Limits}
+use Rattle.f2_model.specs.declared.bounds.Limits.{Limits}
 use Rattle.f2_model.specs.State.{State}
 use Rattle.f2_model.specs.Step.{Event, Faults, Turn, Answer, Began, Stepped, Ticked, Found, NotMounted, Step}
 use Rattle.f2_model.specs.declared.replies.Begun.TheVariants.{Replied}

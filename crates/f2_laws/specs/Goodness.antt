@@ -2,7 +2,8 @@
 use Rattle.std.specs.Prelude.{◌≡◌, ℕ, None, IsTrue}
 use Rattle.std.specs.FinMap as map
 use Rattle.f2_model.specs.Tree.{Rows, IsGoodTree}
-use Rattle.f2_model.specs.Call.{Limits, outcome}
+use Rattle.f2_model.specs.Call.{outcome}
+use Rattle.f2_model.specs.declared.bounds.Limits.{Limits}
 use Rattle.f2_model.specs.Step.{adds_row}
 use Rattle.f2_model.specs.declared.requests.Request.{Request}
 

@@ -1,7 +1,8 @@
 -- What a refused call, and a call that changes nothing, leave of a tree.
 use Rattle.std.specs.Prelude.{◌≡◌, ℕ, List, Some, None}
 use Rattle.f2_model.specs.Tree.{Rows}
-use Rattle.f2_model.specs.Call.{Limits, refusal, effect, space_refusal, outcome}
+use Rattle.f2_model.specs.Call.{refusal, effect, space_refusal, outcome}
+use Rattle.f2_model.specs.declared.bounds.Limits.{Limits}
 use Rattle.f2_model.specs.declared.requests.Request.{Request}
 use Rattle.f2_model.specs.declared.requests.Request.TheVariants.{Read, List as ListNames, Fsync, Sync}
 use Rattle.f2_model.specs.declared.replies.Reply.{Reply}

@@ -4,7 +4,7 @@ use Rattle.std.specs.FinMap as map
 use Rattle.std.specs.FinSet as set
 use Rattle.f2_model.specs.Tree.{Rows, ROOT}
 use Rattle.f2_model.specs.Count.{nodes_of_tree}
-use Rattle.f2_model.specs.Call.{Limits}
+use Rattle.f2_model.specs.declared.bounds.Limits.{Limits}
 use Rattle.f2_model.specs.State.{State, IsFreeIno}
 use Rattle.f2_model.specs.declared.rows.Row.{Row}
 

@@ -2,7 +2,7 @@
 use Rattle.std.specs.Prelude.{◌≡◌, ◌≤◌, ◌⊎◌, ◌↔◌, Bool, true, false, IsTrue, List, [], ◌++◌, length}
 use Rattle.std.specs.List.{list_any}
 use Rattle.f2_model.specs.Tree.{Rows}
-use Rattle.f2_model.specs.Call.{Limits}
+use Rattle.f2_model.specs.declared.bounds.Limits.{Limits}
 use Rattle.f2_model.specs.State.{State, Mark, MayRemain, rolled}
 use Rattle.f2_model.specs.Step.{Event, Faults, Turn, Step, crashed}
 use Rattle.f2_model.specs.declared.histories.Entry.{Entry}
