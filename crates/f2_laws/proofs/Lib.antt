@@ -13,3 +13,4 @@ pub mod Contents
 pub mod Names
 pub mod Calls
 pub mod Moves
+pub mod NewRows

@@ -62,7 +62,7 @@ module _ {X : Type 0} where
       by_test rest true h false t none = let same : e.1 ≡ x = cc in ap test (sym same) ∙ t
       by_test rest false h false t none = rest none h
 
-  find_none : (test : X → Bool) (xs : List X) → find test xs ≡ None → list_any test xs ≡ false
+  pub find_none : (test : X → Bool) (xs : List X) → find test xs ≡ None → list_any test xs ≡ false
   find_none test [] h = refl
   find_none test (x ∷ xs) h = by_test (find_none test xs) (test x) h
     where

@@ -5,3 +5,4 @@ pub mod Survival
 pub mod Choice
 pub mod Room
 pub mod Goodness
+pub mod Space

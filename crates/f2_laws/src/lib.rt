@@ -13,6 +13,7 @@ mod goodness;
 mod refusals;
 mod rolling;
 mod room;
+mod space;
 mod survival;
 
 pub use choice::choices_decide;
@@ -20,4 +21,5 @@ pub use goodness::calls_keep_trees_good;
 pub use refusals::refusals_leave_the_tree;
 pub use rolling::marks_roll_in_order;
 pub use room::free_ino_is_there;
+pub use space::ino_leaves_space;
 pub use survival::durable_rows_survive;
