@@ -14,3 +14,4 @@ pub mod Names
 pub mod Calls
 pub mod Moves
 pub mod NewRows
+pub mod Outcomes

@@ -1,5 +1,5 @@
 -- A tree with one row more takes the same space whichever ino the row gets.
-use Rattle.std.proofs.Common.{◌≡◌, ◌≢◌, ℕ, zero, suc, ◌+◌, Bool, true, false, cond, ◌||◌, List, [], ◌∷◌, ◌++◌, map as map_list, refl, sym, ap, subst, ◌∙◌, arith, true≢false}
+use Rattle.std.proofs.Common.{◌≡◌, ◌≢◌, ℕ, ◌+◌, Bool, true, false, cond, ◌||◌, List, [], ◌∷◌, ◌++◌, map as map_list, refl, sym, ap, ◌∙◌, arith, true≢false}
 use Rattle.std.specs.Prelude.{Option, Some, None, Result, Ok, Err, if◌then◌else◌, ◌==◌, nat_lt}
 use Rattle.std.specs.Bool.{then_some}
 use Rattle.std.specs.List.{list_any, find, filter, flat_map, range_with_len, sum_by}
@@ -20,20 +20,18 @@ use Rattle.f2_format.specs.Offsets.{node_count}
 use Rattle.f2_format.specs.Packing.{blocks_of_names}
 use Rattle.f2_model.specs.Tree.{Rows, ROOT, IsGoodTree, names_of, is_in, names_under, names_in, is_directory, walk, parent_path, last_name}
 use Rattle.f2_model.specs.Count.{dentry_blocks, nodes_of_row, data_of_row, nodes_of_tree, data_of_tree, page_numbers, data_of_kind}
-use Rattle.f2_model.specs.Call.{effect, space_refusal, first_refusal, on_row, new_row, to_directory}
+use Rattle.f2_model.specs.Call.{space_refusal, first_refusal, on_row, new_row, to_directory}
 use Rattle.f2_model.specs.declared.bounds.Limits.{Limits}
 use Rattle.f2_model.specs.declared.rows.Row.{Row}
 use Rattle.f2_model.specs.declared.rows.Kind.{Kind}
 use Rattle.f2_model.specs.declared.rows.Kind.TheVariants.{Regular, Directory}
-use Rattle.f2_model.specs.declared.requests.Request.{Request}
 use Rattle.f2_model.specs.declared.requests.Request.TheVariants.{Create, Mkdir, Write, Truncate, Unlink, Rmdir, Rename, Read, List as ListNames, Fsync, Sync}
-use Rattle.f2_model.specs.declared.replies.Space.{Space}
 use Rattle.f2_model.specs.declared.replies.Space.TheVariants.{Node, Data}
 use Rattle.f2_model.specs.declared.replies.Reply.{Reply}
 use Rattle.f2_model.specs.declared.replies.Reply.TheVariants.{NotDir, NoSpace}
 use Rattle.f2_laws.specs.Space.{InoLeavesSpace}
 use Rattle.f2_laws.proofs.Values.{value_found, find_none}
-use Rattle.f2_laws.proofs.Walks.{some_same, some_none, walk_ends}
+use Rattle.f2_laws.proofs.Walks.{some_none, walk_ends}
 
 -- the rows among entries
 abbrev rows_in : List (ℕ × Row) → List Row
@@ -44,11 +42,11 @@ put_sum : (f : Row → ℕ) (k : ℕ) (v : Row) (es : List (ℕ × Row)) → fin
 put_sum f k v [] none = sum_by-cons f v []
 put_sum f k v (e ∷ es) none = by_place (put_sum f k v es) (nat_cmp k e.0) none
   where
-  by_place : (finite.find nat_cmp k es ≡ None → sum_by f (rows_in (finite.put nat_cmp k v es)) ≡ f v + sum_by f (rows_in es)) → (o : Ordering) → cond (is_eq o) (Some e.1) (finite.find nat_cmp k es) ≡ None →
-      sum_by f (rows_in (by_order o ((k, v) ∷ e ∷ es) ((e.0, v) ∷ es) (e ∷ finite.put nat_cmp k v es))) ≡ f v + sum_by f (e.1 ∷ rows_in es)
-  by_place rest Less none = sum_by-cons f v (e.1 ∷ rows_in es)
-  by_place rest Equal none = absurd (some_none none)
-  by_place rest Greater none = omega (arith, sum_by-cons f e.1 (rows_in (finite.put nat_cmp k v es)), sum_by-cons f e.1 (rows_in es), rest none)
+    by_place : (finite.find nat_cmp k es ≡ None → sum_by f (rows_in (finite.put nat_cmp k v es)) ≡ f v + sum_by f (rows_in es)) → (o : Ordering) → cond (is_eq o) (Some e.1) (finite.find nat_cmp k es) ≡ None →
+        sum_by f (rows_in (by_order o ((k, v) ∷ e ∷ es) ((e.0, v) ∷ es) (e ∷ finite.put nat_cmp k v es))) ≡ f v + sum_by f (e.1 ∷ rows_in es)
+    by_place rest Less none = sum_by-cons f v (e.1 ∷ rows_in es)
+    by_place rest Equal none = absurd (some_none none)
+    by_place rest Greater none = omega (arith, sum_by-cons f e.1 (rows_in (finite.put nat_cmp k v es)), sum_by-cons f e.1 (rows_in es), rest none)
 
 -- the names that one row has in a directory
 abbrev own_names : ℕ → Row → List (List ℕ)
@@ -72,35 +70,35 @@ put_any : (p : List ℕ → Bool) (directory k : ℕ) (v : Row) (es : List (ℕ 
 put_any p directory k v [] none = any_under-cons p directory v []
 put_any p directory k v (e ∷ es) none = by_place (put_any p directory k v es) (nat_cmp k e.0) none
   where
-  by_place : (finite.find nat_cmp k es ≡ None → list_any p (names_under (rows_in (finite.put nat_cmp k v es)) directory) ≡ (list_any p (own_names directory v) || list_any p (names_under (rows_in es) directory))) → (o : Ordering) → cond (is_eq o) (Some e.1) (finite.find nat_cmp k es) ≡ None →
-      list_any p (names_under (rows_in (by_order o ((k, v) ∷ e ∷ es) ((e.0, v) ∷ es) (e ∷ finite.put nat_cmp k v es))) directory) ≡ (list_any p (own_names directory v) || list_any p (names_under (e.1 ∷ rows_in es) directory))
-  by_place rest Less none = any_under-cons p directory v (e.1 ∷ rows_in es)
-  by_place rest Equal none = absurd (some_none none)
-  by_place rest Greater none =
-      any_under-cons p directory e.1 (rows_in (finite.put nat_cmp k v es))
-      ∙ ap (λ b. list_any p (own_names directory e.1) || b) (rest none)
-      ∙ or_swap (list_any p (own_names directory e.1)) (list_any p (own_names directory v)) (list_any p (names_under (rows_in es) directory))
-      ∙ ap (λ b. list_any p (own_names directory v) || b) (sym (any_under-cons p directory e.1 (rows_in es)))
+    by_place : (finite.find nat_cmp k es ≡ None → list_any p (names_under (rows_in (finite.put nat_cmp k v es)) directory) ≡ (list_any p (own_names directory v) || list_any p (names_under (rows_in es) directory))) → (o : Ordering) → cond (is_eq o) (Some e.1) (finite.find nat_cmp k es) ≡ None →
+        list_any p (names_under (rows_in (by_order o ((k, v) ∷ e ∷ es) ((e.0, v) ∷ es) (e ∷ finite.put nat_cmp k v es))) directory) ≡ (list_any p (own_names directory v) || list_any p (names_under (e.1 ∷ rows_in es) directory))
+    by_place rest Less none = any_under-cons p directory v (e.1 ∷ rows_in es)
+    by_place rest Equal none = absurd (some_none none)
+    by_place rest Greater none =
+        any_under-cons p directory e.1 (rows_in (finite.put nat_cmp k v es))
+        ∙ ap (λ b. list_any p (own_names directory e.1) || b) (rest none)
+        ∙ or_swap (list_any p (own_names directory e.1)) (list_any p (own_names directory v)) (list_any p (names_under (rows_in es) directory))
+        ∙ ap (λ b. list_any p (own_names directory v) || b) (sym (any_under-cons p directory e.1 (rows_in es)))
 
 filter_none : {A : Type 0} (p : A → Bool) (xs : List A) → list_any p xs ≡ false → filter p xs ≡ []
 filter_none p [] h = refl
 filter_none p (x ∷ xs) h = by_test (filter_none p xs) (p x) h
   where
-  by_test : (list_any p xs ≡ false → filter p xs ≡ []) → (b : Bool) → (b || list_any p xs) ≡ false → cond b (x ∷ filter p xs) (filter p xs) ≡ []
-  by_test rest true h = absurd (true≢false h)
-  by_test rest false h = rest h
+    by_test : (list_any p xs ≡ false → filter p xs ≡ []) → (b : Bool) → (b || list_any p xs) ≡ false → cond b (x ∷ filter p xs) (filter p xs) ≡ []
+    by_test rest true h = absurd (true≢false h)
+    by_test rest false h = rest h
 
 -- where no row is in a directory, no name is
 none_under : (p : List ℕ → Bool) (directory : ℕ) (rows : List Row) → list_any (is_in directory) rows ≡ false → list_any p (names_under rows directory) ≡ false
 none_under p directory [] h = refl
 none_under p directory (row ∷ rows) h = by_test (none_under p directory rows) (is_in directory row) refl h
   where
-  by_test : (list_any (is_in directory) rows ≡ false → list_any p (names_under rows directory) ≡ false) → (b : Bool) → is_in directory row ≡ b → (b || list_any (is_in directory) rows) ≡ false → list_any p (names_under (row ∷ rows) directory) ≡ false
-  by_test rest true e h = absurd (true≢false h)
-  by_test rest false e h =
-      any_under-cons p directory row rows
-      ∙ ap (λ names. list_any p (map_list (λ (at : ℕ × List ℕ). at.1) names) || list_any p (names_under rows directory)) (filter_none (λ (at : ℕ × List ℕ). at.0 == directory) (names_of row) e)
-      ∙ rest h
+    by_test : (list_any (is_in directory) rows ≡ false → list_any p (names_under rows directory) ≡ false) → (b : Bool) → is_in directory row ≡ b → (b || list_any (is_in directory) rows) ≡ false → list_any p (names_under (row ∷ rows) directory) ≡ false
+    by_test rest true e h = absurd (true≢false h)
+    by_test rest false e h =
+        any_under-cons p directory row rows
+        ∙ ap (λ names. list_any p (map_list (λ (at : ℕ × List ℕ). at.1) names) || list_any p (names_under rows directory)) (filter_none (λ (at : ℕ × List ℕ). at.0 == directory) (names_of row) e)
+        ∙ rest h
 
 module _ (tree : Rows) (k : ℕ) (v : Row) (none : finite.get tree k ≡ None) where
   absent : finite.find nat_cmp k (finite.entries tree) ≡ None
@@ -152,28 +150,29 @@ module _ (most : ℕ) (tree : Rows) (good : IsGoodTree most tree) (kind : Kind) 
   nobody_in : (ino : ℕ) → finite.get tree ino ≡ None → list_any (is_in ino) (finite.values tree) ≡ false
   nobody_in ino none = find_none (is_in ino) (finite.values tree) (by_find (find (is_in ino) (finite.values tree)) refl)
     where
-    by_root : (row : Row) → (b : Bool) → list_any (λ (at : ℕ × List ℕ). at.0 == ino) (if b then [] else ((row.parent, row.name) ∷ [])) ≡ true → row.parent ≡ ino
-    by_root row true h = absurd (true≢false (sym h))
-    by_root row false h = eqb-true row.parent ino (or_no (row.parent == ino) h)
-      where
-      or_no : (b : Bool) → (b || false) ≡ true → b ≡ true
-      or_no true h = refl
-      or_no false h = h
-    by_find : (o : Option Row) → find (is_in ino) (finite.values tree) ≡ o → o ≡ None
-    by_find None e = refl
-    by_find (Some row) e =
-        let found = value_found tree (is_in ino) row e in
-        let above = good.parents found.1.0 row found.1.1 in
-        let parent : row.parent ≡ ino = by_root row (row.ino == ROOT) found.0 in
-        absurd (some_none (sym above.1 ∙ ap (λ i. finite.get tree i) parent ∙ none))
+      by_root : (row : Row) → (b : Bool) → list_any (λ (at : ℕ × List ℕ). at.0 == ino) (if b then [] else ((row.parent, row.name) ∷ [])) ≡ true → row.parent ≡ ino
+      by_root row true h = absurd (true≢false (sym h))
+      by_root row false h = eqb-true row.parent ino (or_no (row.parent == ino) h)
+        where
+          or_no : (b : Bool) → (b || false) ≡ true → b ≡ true
+          or_no true h = refl
+          or_no false h = h
+
+      by_find : (o : Option Row) → find (is_in ino) (finite.values tree) ≡ o → o ≡ None
+      by_find None e = refl
+      by_find (Some row) e =
+          let found = value_found tree (is_in ino) row e in
+          let above = good.parents found.1.0 row found.1.1 in
+          let parent : row.parent ≡ ino = by_root row (row.ino == ROOT) found.0 in
+          absurd (some_none (sym above.1 ∙ ap (λ i. finite.get tree i) parent ∙ none))
 
   module _ (ino other : ℕ) (none : finite.get tree ino ≡ None) (other_none : finite.get tree other ≡ None) where
     blocks_alike : (directory : ℕ) → dentry_blocks (rows_with ino) directory ≡ dentry_blocks (rows_with other) directory
     blocks_alike directory =
         ap (λ names. blocks_of_names (set.items names)) (same_names (names_in (rows_with ino) directory) (names_in (rows_with other) directory) (λ one.
-          inserted_names tree ino (row_at ino) none directory one
-          ∙ ap (λ own. list_any (eq_by_cmp (slice_cmp nat_cmp) one) own || list_any (eq_by_cmp (slice_cmp nat_cmp) one) (names_under (finite.values tree) directory)) (own_is ino directory none ∙ sym (own_is other directory other_none))
-          ∙ sym (inserted_names tree other (row_at other) other_none directory one)))
+        inserted_names tree ino (row_at ino) none directory one
+        ∙ ap (λ own. list_any (eq_by_cmp (slice_cmp nat_cmp) one) own || list_any (eq_by_cmp (slice_cmp nat_cmp) one) (names_under (finite.values tree) directory)) (own_is ino directory none ∙ sym (own_is other directory other_none))
+        ∙ sym (inserted_names tree other (row_at other) other_none directory one)))
 
     nothing_in : (new : ℕ) → finite.get tree new ≡ None → (one : List ℕ) → set.contains (names_in (rows_with new) new) one ≡ false
     nothing_in new absent one =
@@ -212,18 +211,19 @@ module _ (limits : Limits) (tree : Rows) (good : IsGoodTree limits.size tree) (i
       ≡ space_refusal limits (on_row tree (to_directory (walk tree (parent_path path))) (λ up. finite.insert tree other (new_row kind other up.ino (last_name path))))
   added_alike kind path = by_end (walk tree (parent_path path)) refl
     where
-    by_kind : (up : Row) → walk tree (parent_path path) ≡ Ok up → (is : Kind) → space_refusal limits (on_row tree (if is_directory is then Ok up else Err NotDir) (λ up. finite.insert tree ino (new_row kind ino up.ino (last_name path))))
-      ≡ space_refusal limits (on_row tree (if is_directory is then Ok up else Err NotDir) (λ up. finite.insert tree other (new_row kind other up.ino (last_name path))))
-    by_kind up e Regular = refl
-    by_kind up e Directory =
-        let there = (walk_ends limits.size tree good (parent_path path) up e).there in
-        let nodes = nodes_alike limits.size tree good kind up there (last_name path) ino other none other_none in
-        let blocks = data_alike limits.size tree good kind up there (last_name path) ino other none other_none in
-        λ i. wants limits (nodes i) (blocks i)
-    by_end : (end : Result Row Reply) → walk tree (parent_path path) ≡ end → space_refusal limits (on_row tree (to_directory end) (λ up. finite.insert tree ino (new_row kind ino up.ino (last_name path))))
-      ≡ space_refusal limits (on_row tree (to_directory end) (λ up. finite.insert tree other (new_row kind other up.ino (last_name path))))
-    by_end (Err refused) e = refl
-    by_end (Ok up) e = by_kind up e up.kind
+      by_kind : (up : Row) → walk tree (parent_path path) ≡ Ok up → (is : Kind) → space_refusal limits (on_row tree (if is_directory is then Ok up else Err NotDir) (λ up. finite.insert tree ino (new_row kind ino up.ino (last_name path))))
+          ≡ space_refusal limits (on_row tree (if is_directory is then Ok up else Err NotDir) (λ up. finite.insert tree other (new_row kind other up.ino (last_name path))))
+      by_kind up e Regular = refl
+      by_kind up e Directory =
+          let there = (walk_ends limits.size tree good (parent_path path) up e).there in
+          let nodes = nodes_alike limits.size tree good kind up there (last_name path) ino other none other_none in
+          let blocks = data_alike limits.size tree good kind up there (last_name path) ino other none other_none in
+          λ i. wants limits (nodes i) (blocks i)
+
+      by_end : (end : Result Row Reply) → walk tree (parent_path path) ≡ end → space_refusal limits (on_row tree (to_directory end) (λ up. finite.insert tree ino (new_row kind ino up.ino (last_name path))))
+          ≡ space_refusal limits (on_row tree (to_directory end) (λ up. finite.insert tree other (new_row kind other up.ino (last_name path))))
+      by_end (Err refused) e = refl
+      by_end (Ok up) e = by_kind up e up.kind
 
 pub same_space : InoLeavesSpace
 same_space limits tree (Create path) ino other good none other_none = added_alike limits tree good ino other none other_none Regular path

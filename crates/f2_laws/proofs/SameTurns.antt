@@ -34,7 +34,7 @@ abbrev Decides : (Turn → Type 0) → (Turn → Type 0) → Type 0
 Decides P Q = (one other : Turn) → Alike one other → P one → Q other → one ≡ other
 
 -- a failed turn is none of two alike
-fails : {one : Turn} (so : Turn) → tells_failure so.answer ≡ true → one ≡ so → IsFaultless one → ⊥
+pub fails : {one : Turn} (so : Turn) → tells_failure so.answer ≡ true → one ≡ so → IsFaultless one → ⊥
 fails so h e faultless =
     let told = ap (λ (turn : Turn). tells_failure turn.answer) e in cc
 

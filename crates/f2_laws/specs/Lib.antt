@@ -6,3 +6,4 @@ pub mod Choice
 pub mod Room
 pub mod Goodness
 pub mod Space
+pub mod Beginning

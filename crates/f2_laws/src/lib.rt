@@ -8,6 +8,7 @@
 //! ([`free_ino_is_there`]), and every call leaves a good tree good ([`calls_keep_trees_good`]).
 #![tactic(auto)]
 
+mod beginning;
 mod choice;
 mod goodness;
 mod refusals;
@@ -16,6 +17,7 @@ mod room;
 mod space;
 mod survival;
 
+pub use beginning::calls_have_their_outcomes;
 pub use choice::choices_decide;
 pub use goodness::calls_keep_trees_good;
 pub use refusals::refusals_leave_the_tree;

@@ -5,5 +5,4 @@ ghost use Rattle.f2_laws.specs.Space.{InoLeavesSpace};
 /// a number is drawn.
 pub fn ino_leaves_space()
     ensures { InoLeavesSpace }
-{
-}
+{}
