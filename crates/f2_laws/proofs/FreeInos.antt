@@ -100,7 +100,7 @@ few_taken limits state within =
     let logged : length (listed state.logged).0 ≡ set.len state.logged = (listed state.logged).1.length_is in
     let whole : length (taken state) ≡ length (map.keys state.live) + length (map.keys state.base ++ (listed state.logged).0) = length-append _ _ in
     let part : length (map.keys state.base ++ (listed state.logged).0) ≡ length (map.keys state.base) + length (listed state.logged).0 = length-append _ _ in
-    omega (arith, rows_take_nodes state.live, rows_take_nodes state.base, within.numbers, within.live, within.base, within.logged)
+    omega (arith, within.numbers, within.live, within.base, within.logged)
 
 pub free_ino_found : FreeInoIsThere
 free_ino_found limits state within =

@@ -12,11 +12,11 @@ use Rattle.f2_model.specs.declared.rows.Row.{Row}
 abbrev pub RowsTakeNodes : Type 0
 RowsTakeNodes = (tree : Rows) → map.len tree ≤ nodes_of_tree tree
 
--- neither the trees of a state nor its log have more than is granted, there are three numbers for each node that is granted, and a root
+-- the rows of the live tree, those of the base and the files of the log are each no more than the nodes that are granted, for each of which there are three numbers; and there is a root
 pub record IsWithinLimits (limits : Limits) (state : State) : Type 0 where
   pub numbers : 3 * limits.nodes + 4 ≤ limits.nids
-  pub live : nodes_of_tree state.live ≤ limits.nodes
-  pub base : nodes_of_tree state.base ≤ limits.nodes
+  pub live : map.len state.live ≤ limits.nodes
+  pub base : map.len state.base ≤ limits.nodes
   pub logged : set.len state.logged ≤ limits.nodes
   pub root : (row : Row) × (map.get state.live ROOT ≡ Some row)
 
