@@ -1,9 +1,10 @@
 -- What contracts see of a core.
-use Rattle.std.specs.Prelude.{◌≡◌, ℕ, ◌+◌, ◌*◌, ◌<◌, ◌≤◌, Bool, true, false, List, [], length, if◌then◌else◌, Some}
+use Rattle.std.specs.Prelude.{◌≡◌, ℕ, ◌+◌, ◌*◌, ◌<◌, ◌≤◌, Bool, true, false, List, [], length, if◌then◌else◌, Option, Some, None}
 use Rattle.std.specs.FinMap as map
 use Rattle.f2_model.specs.Tree.{Rows, ROOT}
 use Rattle.f2_model.specs.declared.bounds.Limits.{Limits}
 use Rattle.f2_model.specs.State.{State, Mode, Shut, Up, initial}
+use Rattle.f2_model.specs.Step.{is_up}
 use Rattle.f2_model.specs.History.{History}
 use Rattle.f2_model.specs.declared.rows.Row.{Row}
 use Rattle.f2_model.specs.declared.rows.Kind.TheVariants.{Directory}
@@ -44,3 +45,12 @@ pub record IsCore (limits : Limits) (tree : Rows) (is_open : Bool) (history : Hi
   pub grown : IsGrown limits tree
   pub closed : is_open ≡ false → (tree ≡ bare_tree) × (history.entries ≡ [])
   pub room : is_open ≡ true → length history.entries + history.spare ≡ HISTORY_ROOM
+
+-- a closed core on a disk, which knows nothing yet
+abbrev pub IsShut : {D : Type 0} → D → Limits → Seen D → Type 0
+IsShut disk limits core =
+    (core.disk ≡ disk) × (core.limits ≡ limits) × (core.state ≡ initial bare_tree []) × (core.history.entries ≡ []) × (core.history.choices ≡ [])
+
+-- the tree that calls see, of an open volume
+abbrev pub live_where_up : State → Option Rows
+live_where_up state = if is_up state.mode then Some state.live else None

@@ -1,17 +1,36 @@
 //! Adding files to a tree.
-ghost use Rattle.std.specs.Prelude.{◌≡◌, ◌⊎◌, ◌+◌, ◌*◌, ◌<◌, ◌≤◌, Some, None, IsOk, IfOk, MatchResult};
+ghost use Rattle.std.specs.Prelude.{◌≡◌, ◌⊎◌, ◌+◌, ◌*◌, ◌<◌, ◌≤◌, Some, None, IsOk, IfOk, IfSome, MatchResult};
 ghost use Rattle.std.specs.FinMap as map;
 ghost use Rattle.f2_model.specs.Call.{effect, refusal};
 ghost use Rattle.f2_model.specs.Step.{outcome_of};
 ghost use Rattle.f2_model.specs.Tree.{last_name};
 ghost use Rattle.f2_model.specs.declared.requests.Request.TheVariants.{Create};
 ghost use Rattle.f2_model.specs.declared.replies.Reply.TheVariants as reply;
-ghost use Rattle.f2_core.specs.Seen.{IsGrown};
+ghost use Rattle.f2_core.specs.Seen.{IsGrown, bare_tree};
 ghost use Rattle.f2_core.specs.Added.{MakesPlace, AddsFile};
 
-use crate::walks::{walk, walk_parent};
+use crate::walks::{ROOT, walk, walk_parent};
 use f2_model::{Kind, Limits, Name, Outcome, Pages, Path, Reply, Row, Space, Tree};
 use std::alloc::{AllocError, Global};
+
+/// The tree of the root alone; none where memory is refused.
+pub(crate) fn bare_tree(alloc: Global) -> Option<Tree>
+    ensures { IfSome result (λ tree. tree ≡ bare_tree) }
+{
+    let root = Row {
+        ino: ROOT,
+        kind: Kind::Directory,
+        parent: ROOT,
+        name: Name::new(alloc),
+        size: 0,
+        pages: Pages::new(alloc),
+    };
+    let mut tree = Tree::new(alloc);
+    match tree.put(root) {
+        Ok(()) => Some(tree),
+        Err(_) => None,
+    }
+}
 
 /// The ino of the directory in which a file may be made, or the first refusal.
 fn place_for(tree: &Tree, path: &Path) -> Result<u32, Reply>

@@ -3,3 +3,5 @@ pub mod Text
 pub mod Lines
 pub mod Grammar
 pub mod Cuts
+pub mod Replies
+pub mod Faults

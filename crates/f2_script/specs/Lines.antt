@@ -1,5 +1,5 @@
 -- The text of a line of a script.
-use Rattle.std.specs.Prelude.{ℕ, List, [], ◌∷◌, ◌++◌, codes, decimal}
+use Rattle.std.specs.Prelude.{ℕ, List, ◌∷◌, ◌++◌, codes, decimal}
 use Rattle.std.specs.List.{flat_map}
 use Rattle.f2_model.specs.declared.requests.Piece.{Piece}
 use Rattle.f2_model.specs.declared.requests.Request.{Request}

@@ -1,5 +1,5 @@
 //! Words and numbers of a line.
-ghost use Rattle.std.specs.Prelude.{◌≡◌, ◌==◌, ◌≤◌, position, decimal, MatchOption};
+ghost use Rattle.std.specs.Prelude.{◌≡◌, ◌≢◌, ℕ, List, ◌++◌, ◌==◌, ◌≤◌, position, decimal, MatchOption};
 ghost use Rattle.f2_script.specs.Cuts.{Finds, Lacks, IsCutAt};
 
 use itoa::Buffer;
@@ -17,6 +17,13 @@ pub fn cut_at(text: &[u8], byte: u8) -> Option<(&[u8], &[u8])>
 {
     let at = place_of(text, byte)?;
     Some((&text[..at], &text[at + 1..]))
+}
+
+/// What follows a word at the front of the text.
+pub fn after<'a>(text: &'a [u8], word: &[u8]) -> Option<&'a [u8]>
+    ensures { MatchOption result ((rest : List ℕ) → text.now ≢ word.now ++ rest) (λ rest. text.now ≡ word.now ++ rest.now) }
+{
+    text.strip_prefix(word)
 }
 
 /// The number that the text is, up to a limit. With a sign or a leading zero it is none.

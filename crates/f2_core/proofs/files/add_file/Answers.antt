@@ -7,6 +7,7 @@ use Rattle.f2_model.specs.declared.replies.Reply.TheVariants.{NoSpace}
 use Rattle.f2_model.specs.declared.replies.Space.TheVariants.{Node}
 use Rattle.f2_core.specs.Seen.{IsGrown}
 use Rattle.f2_core.proofs.Refusals.{effect-create, on_ok}
+use Rattle.f2_core.proofs.Steps
 use Rattle.f2_core.proofs.Grown.{IsGrown-insert}
 use Rattle.f2_core.proofs.files.add_file.Goals as goal
 
