@@ -26,13 +26,13 @@ zeros_block = record { size = zeros_size; bytes = zeros_byte }
 -- blocks with one content each are whole
 pub whole_alone : (image : List (List ℕ)) → All IsBlock image → IsWhole (length image) (alone image)
 whole_alone image blocks =
-  let single = λ (content : List ℕ). content ∷ [] in
-  record {
-    size = length-map image single;
-    held = All-map (λ list. 0 < length list) single image (λ k d h. omega arith);
-    contents = All-map (All IsBlock) single image
-      (All-weaker IsBlock (λ content. All IsBlock (single content)) (λ x block. All-cons IsBlock x [] block (All-nil IsBlock)) image blocks)
-  }
+    let single = λ (content : List ℕ). content ∷ [] in
+    record {
+      size = length-map image single;
+      held = All-map (λ list. 0 < length list) single image (λ k d h. omega arith);
+      contents = All-map (All IsBlock) single image
+          (All-weaker IsBlock (λ content. All IsBlock (single content)) (λ x block. All-cons IsBlock x [] block (All-nil IsBlock)) image blocks);
+    }
 
 -- their newest contents are those
 pub latest_alone : (image : List (List ℕ)) → latest (alone image) ≡ image

@@ -66,4 +66,4 @@ sooner n (Some calls) = Some (min calls n)
 -- how many failures are planned
 abbrev pub left_of : Plans → ℕ
 left_of plans =
-  (if is_some plans.read then 1 else 0) + (if is_some plans.write then 1 else 0) + (if is_some plans.flush then 1 else 0)
+    (if is_some plans.read then 1 else 0) + (if is_some plans.write then 1 else 0) + (if is_some plans.flush then 1 else 0)

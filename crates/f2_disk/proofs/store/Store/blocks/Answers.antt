@@ -7,5 +7,5 @@ returns-clause-count c = rw (← c.self.view_is) (omega (arith, length-lists_of 
 
 pub returns-clause-whole : goal.returns-clause-whole
 returns-clause-whole c =
-  let orderly = c.self.invariant.0 in
-  rw (← c.self.view_is, length-lists_of) (whole_lists c.self.inside.newest.items c.self.inside.older.items orderly)
+    let orderly = c.self.invariant.0 in
+    rw (← c.self.view_is, length-lists_of) (whole_lists c.self.inside.newest.items c.self.inside.older.items orderly)
