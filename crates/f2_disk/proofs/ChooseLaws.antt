@@ -1,15 +1,15 @@
 -- How the contents that a pick numbers become the newest, block by block.
-use Rattle.std.proofs.Common.{◌≡◌, ◌≢◌, ◌⊎◌, ℕ, zero, suc, ◌+◌, ◌-◌, ◌<◌, ◌≤◌, ◌/◌, ◌%◌, Bool, true, false, eqb, List, [], ◌∷◌, ◌++◌, length, get_or, set, take, drop, map, filter, All, None, Some, refl, sym, ap, ◌∙◌, subst, inl, inr, ⊎_elim, arith, add-one, add-zero}
+use Rattle.std.proofs.Common.{◌≡◌, ℕ, zero, suc, ◌+◌, ◌-◌, ◌<◌, ◌≤◌, ◌/◌, ◌%◌, true, false, eqb, List, [], ◌∷◌, ◌++◌, length, get_or, set, take, drop, map, All, None, refl, sym, ap, ◌∙◌, subst, ⊎_elim, arith, add-zero}
 use Rattle.std.specs.List.Sorted.{IsNonDecreasingBy}
 use Rattle.std.proofs.Math.Nat.{div-one, mod-one, mod-lt}
 use Rattle.std.proofs.lemmas.Bool.{ne_eqb, eq-eqb, cases_lt, cases_eq}
-use Rattle.std.proofs.lemmas.List.{append-nil, get_or-map, get_or_append_left, get_or_push, length_push, length-map, length-take-le, get_or-take, get_or-drop, length-drop, take-append-drop, same_lists, get_or_default, get_or-set_same, get_or-set_other, length-set}
+use Rattle.std.proofs.lemmas.List.{append-nil, get_or-map, get_or_append_left, get_or_push, length_push, length-map, length-take-le, get_or-take, get_or-drop, length-drop, take-append-drop, same_lists, get_or-set_same, get_or-set_other, length-set}
 use Rattle.std.proofs.lemmas.List.Elements.{All-set}
 use Rattle.f2_disk.proofs.ContentsLaws.{zeros_block}
-use Rattle.f2_disk.specs.Contents.{Contents, IsBlock, alone, latest}
-use Rattle.f2_disk.specs.Pick.{picked, crash_image, crashed}
+use Rattle.f2_disk.specs.Contents.{Contents, IsBlock, alone}
+use Rattle.f2_disk.specs.Pick.{picked, crashed}
 use Rattle.f2_disk.specs.declared.store.Older.{Older}
-use Rattle.f2_disk.specs.Store.{Kept, content_of, older_at, list_of, lists_of, IsOrderly}
+use Rattle.f2_disk.specs.Store.{Kept, content_of, older_at, lists_of, IsOrderly}
 use Rattle.f2_disk.proofs.StoreLaws.{length-lists_of, get_or-lists_of, filter_nothing, filter_everything, older_at-append, lists_of-alone, lists_of-flushed}
 
 -- what is left of a pick at a block

@@ -1,9 +1,9 @@
 -- Laws of what calls of a disk do to what it holds.
-use Rattle.std.proofs.Common.{◌≡◌, ℕ, zero, suc, ◌<◌, List, [], ◌∷◌, length, map, replicate, set, All, Option, None, Some, refl, arith, ap, ◌∙◌, inr}
+use Rattle.std.proofs.Common.{◌≡◌, ℕ, zero, suc, ◌<◌, List, [], ◌∷◌, length, replicate, set, All, Option, None, Some, refl, arith, ap, ◌∙◌, inr}
 use Rattle.std.specs.List.{slice_index}
-use Rattle.std.proofs.lemmas.List.{length-map, length-replicate, map-set, get_or-replicate, get_or_past}
+use Rattle.std.proofs.lemmas.List.{length-map, length-replicate, map-set}
 use Rattle.std.proofs.lemmas.List.Elements.{All-map, All-cons, All-nil, All-weaker}
-use Rattle.f2_disk.specs.Contents.{Contents, IsBlock, IsWhole, IsWritten, IsWriteFailed, IsOneChange, WhereTold, alone, latest, last_of, flushed, zeros}
+use Rattle.f2_disk.specs.Contents.{Contents, IsBlock, IsWhole, IsWritten, WhereTold, alone, latest, last_of, flushed, zeros}
 
 -- a list of zeros has nothing else, also past its end
 zero_at : (n at : ℕ) → slice_index (replicate n 0) at ≡ 0

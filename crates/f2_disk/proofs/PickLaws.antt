@@ -1,10 +1,9 @@
 -- What a bench picks at a crash is an image that a crash may leave.
-use Rattle.std.proofs.Common.{◌≡◌, ℕ, suc, ◌-◌, ◌<◌, ◌/◌, ◌%◌, Bool, true, false, cond, eqb, List, [], ◌∷◌, length, All, refl, ap, ◌∙◌, arith}
-use Rattle.std.specs.List.{AllZip, Contains}
+use Rattle.std.proofs.Common.{◌≡◌, ℕ, ◌-◌, ◌<◌, ◌/◌, ◌%◌, Bool, true, false, cond, eqb, [], ◌∷◌, length, All, ◌∙◌, arith}
 use Rattle.std.proofs.Math.Nat.{mod-lt}
 use Rattle.std.proofs.lemmas.List.{length-map}
 use Rattle.std.proofs.lemmas.List.Elements.{All-head, All-tail, Contains-get_or}
-use Rattle.f2_disk.specs.Contents.{Contents, IsImage, IsWhole, latest, last_of}
+use Rattle.f2_disk.specs.Contents.{Contents, IsImage, latest, last_of}
 use Rattle.f2_disk.specs.Pick.{picked, crash_image, crashed}
 use Rattle.f2_disk.proofs.ChooseLaws.{length-picked}
 

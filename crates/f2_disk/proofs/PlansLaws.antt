@@ -1,9 +1,8 @@
 -- Laws of plans: a call of a bench on which no stop is planned fails by its plan alone, and then one less is left.
-use Rattle.std.proofs.Common.{◌≡◌, ◌⊎◌, ℕ, ◌+◌, ◌-◌, ◌≤◌, ◌<◌, Bool, true, false, cond, eqb, ◌||◌, is_some, List, [], ◌∷◌, ◌++◌, length, set, get_or, Option, None, Some, refl, sym, ap, ◌∙◌, arith}
+use Rattle.std.proofs.Common.{◌≡◌, ℕ, ◌+◌, ◌-◌, ◌≤◌, Bool, true, false, cond, eqb, ◌||◌, is_some, List, [], ◌∷◌, ◌++◌, length, set, get_or, Option, None, Some, refl, sym, ap, ◌∙◌, arith}
 use Rattle.std.specs.Option.{option_map}
 use Rattle.f2_disk.specs.declared.bench.CallKind.{CallKind}
 use Rattle.f2_disk.specs.declared.bench.CallKind.TheVariants.{Read, Write, Flush}
-use Rattle.f2_disk.specs.Contents.{Contents}
 use Rattle.f2_disk.specs.Faults.{one_more}
 use Rattle.f2_disk.specs.Meter.{IsWithin}
 use Rattle.std.proofs.lemmas.Bool.{ne_eqb}

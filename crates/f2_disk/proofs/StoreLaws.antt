@@ -1,14 +1,12 @@
 -- Laws of what the fields of a store stand for.
-use Rattle.std.proofs.Common.{◌≡◌, ◌≢◌, ◌⊎◌, ℕ, zero, suc, ◌+◌, ◌-◌, ◌<◌, ◌≤◌, Bool, true, false, cond, eqb, eq-eqb, List, [], ◌∷◌, ◌++◌, length, get_or, set, take, drop, map, filter, replicate, All, Box, None, Some, refl, sym, ap, ◌∙◌, subst, inl, inr, ⊎_elim, arith, length-append}
+use Rattle.std.proofs.Common.{◌≡◌, ◌≢◌, ℕ, zero, suc, ◌+◌, ◌-◌, ◌<◌, ◌≤◌, Bool, true, false, eqb, eq-eqb, List, [], ◌∷◌, ◌++◌, length, get_or, set, take, drop, map, filter, replicate, All, None, refl, sym, ap, ◌∙◌, ⊎_elim, arith}
 use Rattle.std.specs.List.{range_with_len, insert}
-use Rattle.std.specs.List.Sorted.{IsNonDecreasingBy}
-use Rattle.std.specs.declared.alloc.Global.{Global}
 use Rattle.std.proofs.lemmas.Bool.{ne_eqb, cases_eq}
-use Rattle.std.proofs.lemmas.List.{append-nil, append_assoc, map-append, get_or_push, length_push, length-set, same_lists, get_or-set_same, get_or-set_other, get_or_past, get_or-replicate, take-append-drop, length-replicate, get_or-drop, length-drop, get_or_read, get_or-map, length-map}
-use Rattle.std.proofs.lemmas.List.Elements.{All-map, All-append, All-cons, All-nil, All-filter, All-set, All-get_or, All-replicate, All-drop, All-take, filter-append}
+use Rattle.std.proofs.lemmas.List.{append-nil, map-append, get_or_push, length_push, length-set, same_lists, get_or-set_same, get_or-set_other, get_or-replicate, take-append-drop, length-replicate, get_or-drop, length-drop, get_or_read, get_or-map, length-map}
+use Rattle.std.proofs.lemmas.List.Elements.{All-map, All-append, All-cons, All-nil, All-filter, All-set, All-replicate, All-drop, All-take, filter-append}
 use Rattle.std.proofs.lemmas.List.FromFn.{length-map-range_with_len, get_or-map-range_with_len}
 use Rattle.std.proofs.lemmas.List.Sorted.{IsNonDecreasingBy-insert}
-use Rattle.f2_disk.specs.Contents.{Contents, IsBlock, IsWhole, alone, latest, flushed, blank, zeros, last_of}
+use Rattle.f2_disk.specs.Contents.{IsBlock, IsWhole, alone, flushed, blank, zeros, last_of}
 use Rattle.f2_disk.specs.declared.store.Older.{Older}
 use Rattle.f2_disk.specs.Store.{Kept, content_of, older_at, list_of, lists_of, IsOrderly}
 use Rattle.f2_disk.proofs.ContentsLaws.{zeros_block}

@@ -3,7 +3,6 @@ use Rattle.std.specs.Prelude.{ℕ, Bool, ◌||◌, ◌==◌, ◌-◌, ◌++◌, 
 use Rattle.f2_disk.specs.Contents.{Contents, list_at}
 use Rattle.f2_disk.specs.Meter.{Meter}
 use Rattle.f2_disk.specs.Plans.{Plans, left_of, is_due, after_call, answered}
-use Rattle.f2_disk.specs.declared.bench.CallKind.{CallKind}
 use Rattle.f2_disk.specs.declared.bench.CallKind.TheVariants.{Write}
 
 -- what it holds, for how many writes it has room, and what is planned

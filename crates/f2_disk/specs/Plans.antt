@@ -1,5 +1,5 @@
 -- What a bench was asked to fail, and which of its calls that makes fail.
-use Rattle.std.specs.Prelude.{ℕ, ◌+◌, ◌-◌, ◌==◌, min, Bool, true, false, ◌||◌, is_some, Option, Some, None, option_map, if◌then◌else◌}
+use Rattle.std.specs.Prelude.{ℕ, ◌+◌, ◌-◌, ◌==◌, min, Bool, false, ◌||◌, is_some, Option, Some, None, option_map, if◌then◌else◌}
 use Rattle.f2_disk.specs.Faults.{one_more}
 use Rattle.f2_disk.specs.declared.bench.CallKind.{CallKind}
 use Rattle.f2_disk.specs.declared.bench.CallKind.TheVariants.{Read, Write, Flush}

@@ -1,7 +1,6 @@
-use Rattle.std.proofs.Common.{◌≡◌, ℕ, ◌+◌, ◌-◌, ◌%◌, ◌∙◌, ◌<◌, ◌≤◌, ◌++◌, [], ◌∷◌, All, length, map, get_or, ap, sym, arith}
+use Rattle.std.proofs.Common.{◌≡◌, ◌+◌, ◌%◌, ◌∙◌, get_or, ap, sym, arith}
 use Rattle.std.proofs.lemmas.List.{get_or_read}
 use Rattle.f2_disk.specs.declared.store.Older.{Older}
-use Rattle.f2_disk.specs.Store.{IsOrderly, content_of, lists_of}
 use Rattle.f2_disk.proofs.ChooseLaws.{IsRun, chosen_none, chosen_all, chosen_newest, chosen_older}
 use Rattle.f2_disk.proofs.store.choose.Goals as goal
 use Rattle.f2_disk.proofs.store.choose.Goals.{then-kept-count+in-Some-1, then-kept-count+in-None-1, else-kept-count}

@@ -1,4 +1,4 @@
-use Rattle.std.proofs.Common.{◌≡◌, ◌-◌, ◌<◌, leb-true, leb, ap, sym, arith, rules}
+use Rattle.std.proofs.Common.{◌-◌, ◌<◌, leb-true, leb, ap, sym, arith, rules}
 use borrow.Author.Tests.{leb-false}
 use Rattle.std.proofs.lemmas.List.{get_or_read}
 use Rattle.std.proofs.lemmas.List.Sorted.{IsPartitionPoint-from_clause, IsPartitionedBy-leb}

@@ -1,5 +1,4 @@
-use Rattle.std.proofs.Common.{◌≡◌, length, ap, ◌∙◌, refl, sym, rules, arith}
-use Rattle.std.proofs.lemmas.Grind.{common_steps}
+use Rattle.std.proofs.Common.{ap, ◌∙◌, refl, arith}
 use Rattle.f2_disk.specs.Bench.{BenchState}
 use Rattle.f2_disk.specs.Contents.{Contents, IsImage}
 use Rattle.f2_disk.specs.Pick.{crash_image, crashed}

@@ -1,9 +1,9 @@
-use Rattle.std.proofs.Common.{◌≡◌, ◌≤◌, length, refl, arith, rules}
+use Rattle.std.proofs.Common.{◌≡◌, ◌≤◌, length, arith}
 use Rattle.std.proofs.lemmas.Grind.{common_steps}
 use Rattle.f2_disk.proofs.ContentsLaws.{length-flushed}
 use Rattle.f2_disk.specs.Bench.{BenchState, meter_of}
 use Rattle.f2_disk.specs.Meter.{IsWithin}
-use Rattle.f2_disk.specs.Plans.{Plans, is_due, after_call, answered}
+use Rattle.f2_disk.specs.Plans.{is_due, after_call, answered}
 use Rattle.f2_disk.specs.declared.bench.CallKind.TheVariants.{Flush}
 use Rattle.f2_disk.proofs.PlansLaws.{within_call, due_by_plan}
 use Rattle.f2_disk.proofs.mem_bench.MemBenchDisk.flush.Goals as goal

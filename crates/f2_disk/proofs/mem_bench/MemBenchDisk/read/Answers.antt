@@ -1,7 +1,7 @@
-use Rattle.std.proofs.Common.{◌≡◌, ◌≤◌, refl, sym, ◌∙◌, ap, rules, arith}
+use Rattle.std.proofs.Common.{◌≡◌, ◌≤◌, refl, arith}
 use Rattle.f2_disk.specs.Bench.{BenchState, meter_of}
 use Rattle.f2_disk.specs.Meter.{IsWithin}
-use Rattle.f2_disk.specs.Plans.{Plans, is_due, after_call, answered}
+use Rattle.f2_disk.specs.Plans.{is_due, after_call, answered}
 use Rattle.f2_disk.specs.declared.bench.CallKind.TheVariants.{Read}
 use Rattle.f2_disk.proofs.PlansLaws.{within_call, due_by_plan}
 use Rattle.f2_disk.proofs.mem_bench.MemBenchDisk.read.Goals as goal

@@ -1,9 +1,6 @@
-use Rattle.std.proofs.Common.{◌≡◌, ◌≤◌, ◌+◌, length, refl, arith, rules}
+use Rattle.std.proofs.Common.{◌≡◌, ◌≤◌, arith}
 use Rattle.std.proofs.lemmas.Grind.{common_steps}
-use Rattle.f2_disk.specs.Bench.{BenchState, meter_of, write_fails, after_write}
-use Rattle.f2_disk.specs.Meter.{IsWithin}
-use Rattle.f2_disk.specs.Plans.{Plans, is_due, after_call, answered}
-use Rattle.f2_disk.specs.declared.bench.CallKind.TheVariants.{Write}
+use Rattle.f2_disk.specs.Bench.{BenchState, after_write}
 use Rattle.f2_disk.proofs.PlansLaws.{within_write}
 use Rattle.f2_disk.proofs.mem_bench.MemBenchDisk.write.Goals as goal
 

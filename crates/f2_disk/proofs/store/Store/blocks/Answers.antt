@@ -1,4 +1,4 @@
-use Rattle.std.proofs.Common.{length, ◌≡◌, arith}
+use Rattle.std.proofs.Common.{arith}
 use Rattle.f2_disk.proofs.StoreLaws.{length-lists_of, whole_lists}
 use Rattle.f2_disk.proofs.store.Store.blocks.Goals as goal
 

@@ -1,4 +1,4 @@
-use Rattle.std.proofs.Common.{◌≡◌, ◌+◌, ◌-◌, ◌<◌, ◌≤◌, ◌++◌, [], ◌∷◌, Bool, true, false, not, is_ok, leb, leb-true, ℕ, List, None, length, get_or, set, ap, ◌∙◌, arith, rules}
+use Rattle.std.proofs.Common.{◌≡◌, ◌-◌, ◌<◌, ◌≤◌, ◌++◌, [], ◌∷◌, true, not, is_ok, leb, leb-true, ℕ, None, length, get_or, set, ap, ◌∙◌, arith, rules}
 use Rattle.std.specs.List.{insert}
 use Rattle.std.specs.Vec.{vec_len}
 use borrow.Author.Tests.{leb-false}

@@ -1,4 +1,4 @@
-use Rattle.std.proofs.Common.{◌≡◌, ◌<◌, [], length, get_or, ap, sym, ◌∙◌, arith, None, Some}
+use Rattle.std.proofs.Common.{◌<◌, [], length, get_or, ap, sym, ◌∙◌, arith}
 use Rattle.f2_disk.specs.Contents.{last_of}
 use Rattle.f2_disk.specs.Store.{Stored, content_of}
 use Rattle.f2_disk.proofs.StoreLaws.{length-lists_of, last_of-lists_of}
