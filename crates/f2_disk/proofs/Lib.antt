@@ -1,2 +1,6 @@
+pub mod ChooseLaws
 pub mod ContentsLaws
 pub mod MeterLaws
+pub mod PickLaws
+pub mod PlansLaws
+pub mod StoreLaws

@@ -1,7 +1,9 @@
+pub mod Bench
 pub mod Calls
 pub mod Contents
 pub mod Faults
 pub mod Meter
 pub mod Pick
 pub mod Plans
+pub mod Store
 pub mod Streams

@@ -13,6 +13,7 @@
 mod bench;
 mod calls;
 mod disk;
+mod mem_bench;
 mod mem_disk;
 mod mem_sink;
 mod mem_source;
@@ -21,10 +22,12 @@ mod sink;
 mod source;
 mod std_sink;
 mod std_source;
+mod store;
 mod sure_source;
 
 pub use bench::{Bench, CallKind};
 pub use disk::{Block, Disk, DiskFault};
+pub use mem_bench::MemBench;
 pub use mem_disk::MemDisk;
 pub use mem_sink::MemSink;
 pub use mem_source::MemSource;
@@ -33,3 +36,6 @@ pub use source::{Failed, Source};
 pub use std_sink::StdSink;
 pub use std_source::StdSource;
 pub use sure_source::SureSource;
+
+#[cfg(test)]
+mod tests;

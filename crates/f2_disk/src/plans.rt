@@ -60,6 +60,7 @@ impl Plans {
     pub(crate) fn answer(&mut self, failed: bool) -> Result<(), DiskFault>
         ensures fails { is_err result ≡ failed }
         ensures after { self.new ≡ answered failed self.old }
+        ensures later { self.old.faults ≤ self.new.faults }
     {
         if failed {
             self.faults = self.faults.saturating_add(1);
