@@ -7,7 +7,7 @@ ghost use Rattle.f2_model.specs.Call.{walk_parent};
 use f2_model::{Kind, Name, Reply, Row, Tree};
 
 /// The ino of the root.
-pub const ROOT: u32 = 3;
+pub(crate) const ROOT: u32 = 3;
 
 /// Whether a row stands under a name in a directory.
 fn stands_at(row: &Row, directory: u32, name: &Name) -> bool
@@ -24,7 +24,7 @@ fn child<'a>(tree: &'a Tree, directory: u32, name: &Name) -> Option<&'a Row>
 }
 
 /// The row at the end of a path, or the refusal of the first part that has none.
-pub fn walk<'a>(tree: &'a Tree, path: &[Name]) -> Result<&'a Row, Reply>
+pub(crate) fn walk<'a>(tree: &'a Tree, path: &[Name]) -> Result<&'a Row, Reply>
     ensures { MatchResult result (λ row. walk tree.now path.now ≡ Ok row.now) (λ refusal. walk tree.now path.now ≡ Err refusal) }
 {
     let mut row = tree.get(ROOT).ok_or(Reply::NoEnt)?;
@@ -38,7 +38,7 @@ pub fn walk<'a>(tree: &'a Tree, path: &[Name]) -> Result<&'a Row, Reply>
 }
 
 /// The directory in which the last name of a path stands, or would stand.
-pub fn walk_parent<'a>(tree: &'a Tree, path: &[Name]) -> Result<&'a Row, Reply>
+pub(crate) fn walk_parent<'a>(tree: &'a Tree, path: &[Name]) -> Result<&'a Row, Reply>
     ensures { MatchResult result (λ row. walk_parent tree.now path.now ≡ Ok row.now) (λ refusal. walk_parent tree.now path.now ≡ Err refusal) }
 {
     let names = path.len().saturating_sub(1);

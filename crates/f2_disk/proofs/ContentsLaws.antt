@@ -1,6 +1,47 @@
 -- Laws of what calls of a disk do to what it holds.
-use Rattle.std.proofs.Common.{Option, None, Some}
-use Rattle.f2_disk.specs.Contents.{Contents, WhereTold}
+use Rattle.std.proofs.Common.{◌≡◌, ℕ, zero, suc, ◌<◌, List, [], ◌∷◌, length, map, replicate, set, All, Option, None, Some, refl, arith, ap, inr}
+use Rattle.std.specs.List.{slice_index}
+use Rattle.std.proofs.lemmas.List.{length-map, length-replicate, map-set, get_or-replicate, get_or_past}
+use Rattle.std.proofs.lemmas.List.Elements.{All-map, All-cons, All-nil, All-weaker}
+use Rattle.f2_disk.specs.Contents.{Contents, IsBlock, IsWhole, IsWritten, IsWriteFailed, IsOneChange, WhereTold, alone, latest, flushed, zeros}
+
+-- a list of zeros has nothing else, also past its end
+zero_at : (n at : ℕ) → slice_index (replicate n 0) at ≡ 0
+zero_at zero at = refl
+zero_at (suc n) zero = refl
+zero_at (suc n) (suc at) = zero_at n at
+
+zeros_size : length zeros ≡ 4096
+unfolding zeros
+zeros_size = length-replicate {A = ℕ} 4096 0
+
+zeros_byte : (at : ℕ) → slice_index zeros at < 256
+unfolding zeros
+zeros_byte at = omega (arith, zero_at 4096 at)
+
+-- the block of zeros is a block
+pub zeros_block : IsBlock zeros
+zeros_block = record { size = zeros_size; bytes = zeros_byte }
+
+-- blocks with one content each are whole
+pub whole_alone : (image : List (List ℕ)) → All IsBlock image → IsWhole (length image) (alone image)
+whole_alone image blocks =
+  let single = λ (content : List ℕ). content ∷ [] in
+  record {
+    size = length-map image single;
+    held = All-map (λ list. 0 < length list) single image (λ k d h. omega arith);
+    contents = All-map (All IsBlock) single image
+      (All-weaker IsBlock (λ content. All IsBlock (single content)) (λ x block. All-cons IsBlock x [] block (All-nil IsBlock)) image blocks)
+  }
+
+-- their newest contents are those
+pub latest_alone : (image : List (List ℕ)) → latest (alone image) ≡ image
+latest_alone [] = refl
+latest_alone (content ∷ image) = ap (λ rest. content ∷ rest) (latest_alone image)
+
+-- a write over the one content of a block
+pub written_alone : (at : ℕ) (content : List ℕ) (image : List (List ℕ)) → IsWritten at content (alone image) (alone (set image at content))
+written_alone at content image = inr (map-set (λ c. c ∷ []) image at content)
 
 -- what is told stays
 pub told_same : (told : Option Contents) (R : Contents → Contents → Type 0) → ((c : Contents) → R c c) → WhereTold told told R

@@ -1,11 +1,11 @@
 -- What a disk holds, block by block, and what its calls and a crash do to that.
-use Rattle.std.specs.Prelude.{◌≡◌, ◌⊎◌, ℕ, ◌-◌, ◌<◌, List, [], ◌∷◌, ◌++◌, length, map, replicate, Option, Some, None, ⊤, All, Contains, insert, slice_index_or, slice_set}
+use Rattle.std.specs.Prelude.{◌≡◌, ◌⊎◌, ℕ, ◌-◌, ◌<◌, List, [], ◌∷◌, ◌++◌, length, map, replicate, Option, Some, None, ⊤, All, Contains, insert, slice_index, slice_index_or, slice_set}
 use Rattle.std.specs.List.{AllZip}
 
 -- the bytes of a block
 pub record IsBlock (content : List ℕ) : Type 0 where
   pub size : length content ≡ 4096
-  pub bytes : All (λ b. b < 256) content
+  pub bytes : (at : ℕ) → slice_index content at < 256
 
 -- What a disk holds: one list of contents per block, oldest first. The last is what a read gives; until a flush
 -- a crash may leave any one of them.

@@ -1,5 +1,5 @@
 ghost use Rattle.std.specs.Prelude.{◌≡◌, ℕ, ◌<◌, Option, OnOk, OnErr, IfSome, option_map};
-ghost use Rattle.f2_disk.specs.Contents.{Contents, IsWhole, IsWritten, IsWriteFailed, WhereTold, list_at, last_of, flushed};
+ghost use Rattle.f2_disk.specs.Contents.{Contents, IsBlock, IsWhole, IsWritten, IsWriteFailed, WhereTold, list_at, last_of, flushed, zeros};
 ghost use Rattle.f2_disk.specs.Meter.{Meter, HasFailed, IsWithin};
 
 use thiserror::Error;
@@ -59,4 +59,12 @@ pub trait Disk {
 
         ensures cause { OnErr result (HasFailed (meter self.old) (meter self.new)) }
         ensures within { IsWithin 0 (meter self.old) (meter self.new) };
+}
+
+/// A block of zeros.
+pub(crate) fn blank_block() -> Block
+    ensures zeros { result ≡ zeros }
+    ensures block { IsBlock result }
+{
+    [0; 4096]
 }

@@ -11,13 +11,25 @@
 #![tactic(auto)]
 
 mod bench;
+mod calls;
 mod disk;
+mod mem_disk;
+mod mem_sink;
+mod mem_source;
+mod plans;
 mod sink;
 mod source;
+mod std_sink;
+mod std_source;
 mod sure_source;
 
 pub use bench::{Bench, CallKind};
 pub use disk::{Block, Disk, DiskFault};
+pub use mem_disk::MemDisk;
+pub use mem_sink::MemSink;
+pub use mem_source::MemSource;
 pub use sink::Sink;
 pub use source::{Failed, Source};
+pub use std_sink::StdSink;
+pub use std_source::StdSource;
 pub use sure_source::SureSource;

@@ -1,1 +1,5 @@
+pub mod BytesLemmas
+pub mod FieldLemmas
+pub mod FlagLemmas
 pub mod PackingLemmas
+pub mod Slices

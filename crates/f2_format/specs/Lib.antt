@@ -1,2 +1,12 @@
+pub mod Bytes
+pub mod Dentry
+pub mod Footer
+pub mod Geometry
+pub mod Inode
+pub mod Journal
+pub mod Nat
 pub mod Offsets
+pub mod Pack
 pub mod Packing
+pub mod Seal
+pub mod Superblock

@@ -1,5 +1,5 @@
 -- The entries of an ordered map, in the order of their keys, as a finite map.
-use Rattle.std.proofs.Common.{◌≡◌, ℕ, Bool, true, false, cond, not, ◌&&◌, List, [], ◌∷◌, map, length, refl, sym, ap, subst, ◌∙◌}
+use Rattle.std.proofs.Common.{◌≡◌, ℕ, Bool, true, false, cond, ◌&&◌, List, [], ◌∷◌, map, length, refl, sym, ap, subst, ◌∙◌}
 use Rattle.std.specs.Prelude.{T}
 use Rattle.std.specs.Prelude.{Option, Some, None, suc}
 use Rattle.std.specs.Option.{option_map}
@@ -7,8 +7,8 @@ use Rattle.std.specs.List.{AllByRecursion}
 use Rattle.std.specs.List.Sorted.{IsStrictlySortedBy}
 use Rattle.std.specs.Map.{lookup, keys_of, values_of}
 use Rattle.std.specs.BTreeMap.{is_at}
-use Rattle.std.specs.Ordering.{nat_cmp, is_eq, is_lt, eq_by_cmp}
-use Rattle.std.specs.declared.cmp.Ordering.TheVariants.{Less, Equal, Greater}
+use Rattle.std.specs.Ordering.{nat_cmp, is_eq, is_lt}
+use Rattle.std.specs.declared.cmp.Ordering.TheVariants.{Less, Equal}
 use Rattle.std.specs.Cmp.{nat_cmp_total, eq_by_cmp_equiv}
 use Rattle.std.specs.FinMap as finite
 use Rattle.std.specs.FinMap.{FinMap, find, is_sorted, entries, from_entries, from_sorted, nat_cmp-IsAntisymmetric, same_map, get-from_entries, get-from_sorted, entries-from_sorted, get-insert, get-remove, len-entries, get-retain_keys}
@@ -125,8 +125,8 @@ module _ {A X : Type 0} (es : List (ℕ × A)) (f : A → X) (m : FinMap nat_cmp
   shown_seen-retain_keys fs p h =
       let alike : (q x : ℕ) → nat_cmp q x ≡ Equal → p x ≡ p q = λ q x t. ap p (sym (nat_cmp-IsAntisymmetric q x t)) in
       same_map nat_cmp_total nat_cmp-IsAntisymmetric _ _ (λ q.
-          get-from_entries nat_cmp_total (shown f fs) q
-          ∙ ap (find nat_cmp q) (ap (shown f) h ∙ shown-where_key f p es)
-          ∙ find-where_key nat_cmp p q (alike q) (shown f es)
-          ∙ ap (λ o. cond (p q) o None) (sym (lookup-find q (shown f es)) ∙ lookup-seen (shown f es) m seen q)
-          ∙ sym (get-retain_keys m p q (alike q)))
+      get-from_entries nat_cmp_total (shown f fs) q
+      ∙ ap (find nat_cmp q) (ap (shown f) h ∙ shown-where_key f p es)
+      ∙ find-where_key nat_cmp p q (alike q) (shown f es)
+      ∙ ap (λ o. cond (p q) o None) (sym (lookup-find q (shown f es)) ∙ lookup-seen (shown f es) m seen q)
+      ∙ sym (get-retain_keys m p q (alike q)))

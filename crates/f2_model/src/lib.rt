@@ -1,20 +1,33 @@
 //! The file tree of a volume, the calls on it, and the history of what was answered.
+//!
+//! The layers above hold these values and speak of them in their contracts: a [`Tree`] is the map
+//! from inos to rows, [`Pages`] the map from page numbers to contents, a list of [`Items`] the list
+//! of its members, and a [`Log`] the entries and choices of a history with its spare room. A call
+//! that is refused memory leaves its value as it was; `Log::add` takes none, since `Log::room` took
+//! it before.
+//!
+//! What a call does to a tree, which steps a volume may take, and what a crash may leave is defined
+//! in `specs/`: `Names`, `Content`, `Tree`, `Call`, `State`, `Fallback`, `Step`, `Run`, `History`.
 #![tactic(auto)]
 
 mod bounds;
 mod histories;
 mod lists;
+mod meets;
 mod names;
 mod page_maps;
 mod paths;
 mod replies;
 mod requests;
 mod rows;
+#[cfg(test)]
+mod tests;
 mod trees;
 
 pub use bounds::Limits;
 pub use histories::{CallKind, Entry, Log};
 pub use lists::{Bytes, Items, Name, Names, Numbers, Path};
+pub use meets::Meet;
 pub use page_maps::{Block, Pages};
 pub use replies::{Begun, Outcome, Plan, Reason, Replies, Reply, Space, Step, Tick};
 pub use requests::{Piece, Pieces, Request};

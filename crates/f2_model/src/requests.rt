@@ -1,5 +1,8 @@
 //! What a seat asks of a volume.
+ghost use Rattle.std.specs.Prelude.{◌≡◌, IfOk};
+
 use crate::lists::{Items, Path};
+use std::alloc::{AllocError, Global};
 
 /// One run of equal bytes to be written.
 #[derive(Clone, Copy, Debug, PartialEq, Eq)]
@@ -40,4 +43,38 @@ pub enum Request {
     Fsync { path: Path },
     /// Makes the whole tree durable, by a checkpoint.
     Sync,
+}
+
+impl Request {
+    /// An equal request.
+    pub fn copy(&self, alloc: Global) -> Result<Request, AllocError>
+        ensures { IfOk result (λ request. request ≡ self.now) }
+    {
+        match self {
+            Request::Create { path } => path.copy(alloc).map(|path| Request::Create { path }),
+            Request::Mkdir { path } => path.copy(alloc).map(|path| Request::Mkdir { path }),
+            Request::Write { path, pieces } => Ok(Request::Write {
+                path: path.copy(alloc)?,
+                pieces: Items::from_slice(alloc, pieces.as_slice())?,
+            }),
+            Request::Truncate { path, size } => Ok(Request::Truncate {
+                path: path.copy(alloc)?,
+                size: *size,
+            }),
+            Request::Unlink { path } => path.copy(alloc).map(|path| Request::Unlink { path }),
+            Request::Rmdir { path } => path.copy(alloc).map(|path| Request::Rmdir { path }),
+            Request::Rename { from, to } => Ok(Request::Rename {
+                from: from.copy(alloc)?,
+                to: to.copy(alloc)?,
+            }),
+            Request::Read { path, off, len } => Ok(Request::Read {
+                path: path.copy(alloc)?,
+                off: *off,
+                len: *len,
+            }),
+            Request::List { path } => path.copy(alloc).map(|path| Request::List { path }),
+            Request::Fsync { path } => path.copy(alloc).map(|path| Request::Fsync { path }),
+            Request::Sync => Ok(Request::Sync),
+        }
+    }
 }

@@ -6,4 +6,4 @@ use Rattle.f2_model.proofs.page_maps.Pages.cut.Goals as goal
 pub returns : goal.returns
 returns c =
     shown_seen-retain_keys c.self.inside.pages.entries (λ b. b.value) _ c.self.view_is _ (λ page. nat_lt page c.args.from)
-        (filter_same_pairs _ (λ e. nat_lt e.0 c.args.from) _ (λ k v b w f' t. search rules) _ _ c.retain.ensures.filtered)
+    (filter_same_pairs _ (λ e. nat_lt e.0 c.args.from) _ (λ k v b w f' t. search rules) _ _ c.retain.ensures.filtered)

@@ -1,4 +1,4 @@
-use Rattle.std.proofs.Common.{ap, ◌∙◌, ◌≡◌, Some}
+use Rattle.std.proofs.Common.{ap, ◌∙◌, Some}
 use Rattle.std.specs.Option.{option_map}
 use Rattle.f2_model.proofs.MapViews.{lookup-shown_seen}
 use Rattle.f2_model.proofs.page_maps.Pages.get.Goals as goal

@@ -1,0 +1,6 @@
+use Rattle.std.proofs.Common.{◌-◌, ◌∙◌, arith}
+use Rattle.f2_format.proofs.Slices.{number_at-rest}
+use Rattle.f2_bytes.proofs.get64.Goals as goal
+
+pub returns : goal.returns
+returns c = c.read_u64.ensures ∙ number_at-rest 8 c.args.at (4096 - c.args.at) c.args.b.now (omega arith)

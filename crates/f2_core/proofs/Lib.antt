@@ -1,0 +1,4 @@
+pub mod Refusals
+pub mod Grown
+pub mod Steps
+pub mod Runs
