@@ -2,3 +2,4 @@ pub mod Refusals
 pub mod Grown
 pub mod Steps
 pub mod Runs
+pub mod Created

@@ -1,10 +1,13 @@
 -- Runs that go on, and what one call comes to.
-use Rattle.std.proofs.Common.{◌≡◌, ℕ, List, [], ◌∷◌, ◌++◌, refl, ap, sym, ◌∙◌, subst, append_assoc, append-nil}
+use Rattle.std.proofs.Common.{◌≡◌, ℕ, List, [], ◌∷◌, ◌++◌, refl, ap, sym, ◌∙◌, subst, append_assoc, append-nil, add-zero}
 use Rattle.std.specs.List.{flat_map}
 use Rattle.f2_model.specs.declared.bounds.Limits.{Limits}
 use Rattle.f2_model.specs.declared.histories.Entry.{Entry}
 use Rattle.f2_model.specs.State.{State}
 use Rattle.f2_model.specs.Step as machine
+use Rattle.f2_model.specs.Step.{Event, Answer, Faults, Turn, Step}
+use Rattle.f2_core.specs.Seen.{Seen}
+use Rattle.f2_core.specs.Events.{ComesTo}
 use Rattle.f2_model.specs.Run.{Happening, entries_of, choices_of}
 use Rattle.f2_core.specs.Room.{HasRoom, HappenedWithRoom, IsRunWithRoom}
 
@@ -25,3 +28,37 @@ run-append limits from mid to es cs ys run more = record {
     happened = happened-append limits from mid to run.events ys run.happened more;
     entries_left = ap (λ e. e ++ entries_of ys) run.entries_left ∙ sym (flat_map-append _ run.events ys);
     choices_left = ap (λ c. c ++ choices_of ys) run.choices_left ∙ sym (flat_map-append _ run.events ys) }
+
+-- the disk's faults where it wasn't called
+abbrev pub calm : Faults
+calm = record { before = 0; after = 0 }
+
+-- a run goes on by one event
+pub run-once : (limits : Limits) (from mid : State) (es : List Entry) (cs : List ℕ) (event : Event) (turn : Turn) → IsRunWithRoom limits from es cs mid
+    → (HasRoom limits mid event → Step limits calm mid event turn) → IsRunWithRoom limits from (es ++ turn.entries) (cs ++ turn.choices) turn.after
+run-once limits from mid es cs event turn run step =
+    let one : Happening = record { event = event; faults = calm; turn = turn } in
+    let more = run-append limits from mid turn.after es cs (one ∷ []) run (step, refl) in
+    subst (λ e. IsRunWithRoom limits from (es ++ e) (cs ++ turn.choices) turn.after) (append-nil turn.entries)
+      (subst (λ c. IsRunWithRoom limits from (es ++ (turn.entries ++ [])) (cs ++ c) turn.after) (append-nil turn.choices) more)
+
+-- a call that came to one event
+pub comes-once : {D : Type 0} (old new : Seen D) (event : Event) (answer : Answer) (turn : Turn)
+    → (HasRoom old.limits old.state event → Step old.limits calm old.state event turn)
+    → turn.answer ≡ answer → turn.after ≡ new.state
+    → new.history.entries ≡ old.history.entries ++ turn.entries → new.history.choices ≡ old.history.choices ++ turn.choices
+    → new.limits ≡ old.limits → new.disk ≡ old.disk → ComesTo old new event answer
+comes-once old new event answer turn step told after entries choices limits disk = record {
+    events = record { event = event; faults = calm; turn = turn } ∷ [];
+    happened = (step, after);
+    told = (refl, told, tt);
+    entries = entries ∙ ap (λ e. old.history.entries ++ e) (sym (append-nil turn.entries));
+    choices = choices ∙ ap (λ c. old.history.choices ++ c) (sym (append-nil turn.choices));
+    limits = limits;
+    disk = disk }
+
+-- a call that changed nothing
+pub comes-unchanged : {D : Type 0} (old : Seen D) (event : Event) (answer : Answer) → (HasRoom old.limits old.state event → Step old.limits calm old.state event (machine.unchanged old.state answer)) → ComesTo old old event answer
+comes-unchanged old event answer step =
+    comes-once old old event answer (machine.unchanged old.state answer) step refl (λ i. record old.state { entries = add-zero old.state.entries i })
+      (sym (append-nil old.history.entries)) (sym (append-nil old.history.choices)) refl refl

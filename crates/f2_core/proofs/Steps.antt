@@ -88,7 +88,7 @@ len-le-nodes tree =
     omega (arith, many, len, map.len-entries tree)
 
 -- where no space is refused, the nodes fit
-first-none : (o : Option Reply) (rest : List (Option Reply)) → first_refusal (o ∷ rest) ≡ None → o ≡ None
+pub first-none : (o : Option Reply) (rest : List (Option Reply)) → first_refusal (o ∷ rest) ≡ None → o ≡ None
 first-none None rest e = refl
 first-none (Some r) rest e = e
 

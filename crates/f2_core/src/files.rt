@@ -56,8 +56,13 @@ fn last_name(alloc: Global, path: &Path) -> Result<Name, AllocError>
     }
 }
 
-/// Adds an empty file under the next ino, and gives that; a refusal leaves the tree.
-pub(crate) fn add_file(alloc: Global, tree: &mut Tree, limits: Limits, path: &Path) -> Result<u32, Reply>
+/// Adds an empty file under the next ino, and gives that, or the first refusal. A refusal leaves the tree.
+pub(crate) fn add_file(
+    alloc: Global,
+    tree: &mut Tree,
+    limits: Limits,
+    path: &Path,
+) -> Result<Result<u32, Reply>, AllocError>
     requires nids { 3 * limits.nodes + 4 ≤ limits.nids }
     requires grown { IsGrown limits tree.old }
     ensures added { AddsFile limits tree.old tree.new path.now result }
@@ -65,20 +70,18 @@ pub(crate) fn add_file(alloc: Global, tree: &mut Tree, limits: Limits, path: &Pa
 {
     let parent = match place_for(tree, path) {
         Ok(parent) => parent,
-        Err(refusal) => return Err(refusal),
+        Err(refusal) => return Ok(Err(refusal)),
     };
     let rows = tree.len();
     if rows >= limits.nodes as usize {
-        return Err(Reply::NoSpace {
+        return Ok(Err(Reply::NoSpace {
             space: Space::Node,
             need: rows as u32 + 1,
             limit: limits.nodes,
-        });
+        }));
     }
     let ino = rows as u32 + 3;
-    let Ok(name) = last_name(alloc, path) else {
-        return Err(Reply::Memory);
-    };
+    let name = last_name(alloc, path)?;
     let row = Row {
         ino,
         kind: Kind::Regular,
@@ -87,10 +90,8 @@ pub(crate) fn add_file(alloc: Global, tree: &mut Tree, limits: Limits, path: &Pa
         size: 0,
         pages: Pages::new(alloc),
     };
-    if tree.put(row).is_err() {
-        return Err(Reply::Memory);
-    }
-    Ok(ino)
+    tree.put(row)?;
+    Ok(Ok(ino))
 }
 
 /// A reply without its contents.

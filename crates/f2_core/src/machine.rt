@@ -121,7 +121,7 @@ impl<D: Disk> Core<D> {
             return Reply::Spent;
         }
         match add_file(self.alloc, &mut self.tree, self.limits, &path) {
-            Ok(ino) => {
+            Ok(Ok(ino)) => {
                 let entry = Entry::Did {
                     seat,
                     request: Request::Create { path },
@@ -130,8 +130,7 @@ impl<D: Disk> Core<D> {
                 self.history.add(entry, Some(ino));
                 Reply::Done
             }
-            Err(Reply::Memory) => Reply::Memory,
-            Err(refusal) => {
+            Ok(Err(refusal)) => {
                 let entry = Entry::Did {
                     seat,
                     request: Request::Create { path },
@@ -140,6 +139,7 @@ impl<D: Disk> Core<D> {
                 self.history.add(entry, None);
                 refusal
             }
+            Err(_) => Reply::Memory,
         }
     }
 

@@ -1,7 +1,6 @@
 -- What a call does to a tree: the first refusal that holds, or else the reply and the tree after it.
-use Rattle.std.specs.Prelude.{◌≡◌, ℕ, zero, suc, ◌+◌, ◌-◌, ◌*◌, ◌/◌, ◌%◌, ◌<◌, ◌≤◌, min, Bool, true, false, not, ◌&&◌, ◌||◌, nat_lt, nat_le, if◌then◌else◌, ◌==◌, List, [], ◌∷◌, ◌++◌, length, is_some, is_ok}
+use Rattle.std.specs.Prelude.{ℕ, zero, suc, ◌+◌, min, Bool, false, not, ◌&&◌, ◌||◌, nat_lt, if◌then◌else◌, ◌==◌, List, [], ◌∷◌, length, is_ok}
 use Rattle.std.specs.Prelude.{Option, Some, None, Result, Ok, Err}
-use Rattle.std.specs.Option.{option_map}
 use Rattle.std.specs.Bool.{then_some}
 use Rattle.std.specs.List.{list_any, starts_with}
 use Rattle.std.specs.FinMap as map
@@ -14,10 +13,8 @@ pub use Rattle.f2_model.specs.declared.bounds.Limits.{Limits}
 use Rattle.f2_model.specs.declared.rows.Row.{Row}
 use Rattle.f2_model.specs.declared.rows.Kind.{Kind}
 use Rattle.f2_model.specs.declared.rows.Kind.TheVariants.{Regular, Directory}
-use Rattle.f2_model.specs.declared.requests.Piece.{Piece}
 use Rattle.f2_model.specs.declared.requests.Request.{Request}
 use Rattle.f2_model.specs.declared.requests.Request.TheVariants.{Create, Mkdir, Write, Truncate, Unlink, Rmdir, Rename, Read, List as ListNames, Fsync, Sync}
-use Rattle.f2_model.specs.declared.replies.Space.{Space}
 use Rattle.f2_model.specs.declared.replies.Space.TheVariants.{Node, Data}
 use Rattle.f2_model.specs.declared.replies.Reply.{Reply}
 use Rattle.f2_model.specs.declared.replies.Reply.TheVariants.{Done, Bytes, Names, BadName, NotDir, IsDir, Exists, NotEmpty, TooBig, NoSpace}
@@ -113,9 +110,9 @@ steps_up tree zero top row = if row.ino == top then Some 0 else None
 steps_up tree (suc few) top row =
     if row.ino == top then Some 0 else one_more (steps_from (map.get tree row.parent) (steps_up tree few top))
   where
-  steps_from : Option Row → (Row → Option ℕ) → Option ℕ
-  steps_from None next = None
-  steps_from (Some up) next = next up
+    steps_from : Option Row → (Row → Option ℕ) → Option ℕ
+    steps_from None next = None
+    steps_from (Some up) next = next up
 
 -- whether a directory at or below a row would stand too deep, were the row moved to a depth
 abbrev pub is_too_deep : ℕ → Option ℕ → Bool

@@ -1,5 +1,5 @@
 -- The bytes of a file, page by page.
-use Rattle.std.specs.Prelude.{◌≡◌, ℕ, ◌+◌, ◌-◌, ◌*◌, ◌/◌, ◌%◌, ◌<◌, ◌≤◌, min, max, Bool, nat_lt, if◌then◌else◌, ◌==◌, List, [], ◌∷◌, ◌++◌, map, take, drop, length, replicate, slice_index}
+use Rattle.std.specs.Prelude.{ℕ, ◌+◌, ◌-◌, ◌*◌, ◌/◌, ◌%◌, min, max, Bool, nat_lt, if◌then◌else◌, ◌==◌, List, [], ◌++◌, map, take, drop, replicate, slice_index}
 use Rattle.std.specs.Option.{unwrap_or}
 use Rattle.std.specs.List.{fold, range_with_len}
 use Rattle.std.specs.Ordering.{nat_cmp}

@@ -1,5 +1,5 @@
 -- How many nodes and data blocks rows take, counted from page numbers and names alone.
-use Rattle.std.specs.Prelude.{ℕ, ◌+◌, List, [], ◌∷◌}
+use Rattle.std.specs.Prelude.{ℕ, List}
 use Rattle.std.specs.List.{range_with_len, sum_by}
 use Rattle.std.specs.FinMap as map
 use Rattle.std.specs.FinSet as set

@@ -1,8 +1,8 @@
 -- When an fsync makes a checkpoint in place of rolling forward, and the room that it is measured against.
-use Rattle.std.specs.Prelude.{◌≡◌, ℕ, ◌+◌, max, Bool, true, false, not, ◌&&◌, ◌||◌, nat_lt, if◌then◌else◌, ◌==◌, List, [], ◌∷◌, ◌++◌, map as map_list, length}
+use Rattle.std.specs.Prelude.{ℕ, ◌+◌, max, Bool, not, ◌&&◌, ◌||◌, nat_lt, ◌==◌, List, [], ◌∷◌, ◌++◌, map as map_list}
 use Rattle.std.specs.Prelude.{Option, Some, None}
 use Rattle.std.specs.Bool.{then_some}
-use Rattle.std.specs.List.{list_any, filter, filter_map, fold, sum_by, count_by, range_with_len}
+use Rattle.std.specs.List.{list_any, filter, filter_map, fold, count_by, range_with_len}
 use Rattle.std.specs.Ordering.{nat_cmp}
 use Rattle.std.specs.FinMap as map
 use Rattle.std.specs.FinSet as set
@@ -10,7 +10,7 @@ use Rattle.f2_format.specs.Offsets.{node_count}
 use Rattle.f2_model.specs.Tree.{Rows, is_directory, stands_at, names_of}
 use Rattle.f2_model.specs.Count.{dentry_blocks, nodes_of_row, data_of_row}
 use Rattle.f2_model.specs.Call.{Limits}
-use Rattle.f2_model.specs.State.{State, Mark, Flight, InFsync, InCheck, Stage, Part, InPages, InNodes, Marked, Pairs}
+use Rattle.f2_model.specs.State.{State, Flight, InFsync, InCheck, Part, Marked, Pairs}
 use Rattle.f2_model.specs.declared.rows.Row.{Row}
 use Rattle.f2_model.specs.declared.replies.Reason.{Reason}
 use Rattle.f2_model.specs.declared.replies.Reason.TheVariants.{NonRegular, Renamed, ParentNew, NameTaken, Shrunk, Room}
@@ -84,20 +84,20 @@ abbrev pub held : State → ℕ → Both
 held state ino =
     let rows = recoverable state ino in
     sum_of (fold (λ total file. sum_of total (greatest_of rows file)) nothing (regular_inos rows))
-      (fold (λ total directory. sum_of total (of_directory rows directory)) nothing (directory_inos state.base))
+    (fold (λ total directory. sum_of total (of_directory rows directory)) nothing (directory_inos state.base))
 
 -- whether another file of the base or of a mark has the row's name
 abbrev pub is_name_taken : State → Row → Bool
 is_name_taken state row =
     list_any (λ other. not (other.ino == row.ino) && list_any (λ at. stands_at at.0 at.1 other) (names_of row))
-      (map.values state.base ++ map_list (λ mark. mark.row) state.marks)
+    (map.values state.base ++ map_list (λ mark. mark.row) state.marks)
 
 -- whether a zone lacks room: for what is to be written since the base, or for what recovery may find
 abbrev pub lacks_room : Limits → State → ℕ → Bool
 lacks_room limits state ino =
     let writes = sum_of (sum_of (record { nodes = state.node_writes; pages = state.data_writes }) (owed state)) (needed state ino) in
     nat_lt limits.nodes writes.nodes || nat_lt limits.data_blocks writes.pages
-      || nat_lt limits.nodes (held state ino).nodes || nat_lt limits.data_blocks (held state ino).pages
+    || nat_lt limits.nodes (held state ino).nodes || nat_lt limits.data_blocks (held state ino).pages
 
 -- the first reason that there is
 abbrev pub first_reason : List (Option Reason) → Option Reason

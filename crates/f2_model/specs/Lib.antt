@@ -9,3 +9,5 @@ pub mod Fallback
 pub mod Step
 pub mod Run
 pub mod History
+pub mod Own
+pub mod Machine

@@ -1,5 +1,5 @@
 -- Runs of the abstract machine: one event after another, with the history that they leave.
-use Rattle.std.specs.Prelude.{◌≡◌, ℕ, List, [], ◌∷◌, ◌++◌}
+use Rattle.std.specs.Prelude.{◌≡◌, ℕ, List, [], ◌∷◌}
 use Rattle.std.specs.List.{flat_map}
 use Rattle.f2_model.specs.Call.{Limits}
 use Rattle.f2_model.specs.State.{State}

@@ -1,5 +1,5 @@
 -- The state of the abstract machine, how a crash leaves it, and what a call makes dirty.
-use Rattle.std.specs.Prelude.{◌≡◌, ◌≢◌, ℕ, ◌+◌, ◌-◌, ◌*◌, ◌/◌, ◌%◌, ◌<◌, ◌≤◌, Bool, true, false, not, ◌&&◌, ◌||◌, nat_lt, nat_le, if◌then◌else◌, ◌==◌, ◌⊎◌, List, [], ◌∷◌, ◌++◌, map as map_list, take, length, IsTrue}
+use Rattle.std.specs.Prelude.{◌≡◌, ℕ, ◌+◌, ◌/◌, ◌%◌, ◌<◌, ◌≤◌, Bool, false, not, ◌&&◌, nat_lt, if◌then◌else◌, ◌==◌, ◌⊎◌, List, [], ◌∷◌, ◌++◌, take, length}
 use Rattle.std.specs.Prelude.{Option, Some, None, Result, Ok, Err}
 use Rattle.std.specs.List.{list_any, filter, filter_map, fold, flat_map}
 use Rattle.std.specs.Ordering.{nat_cmp, on, then_cmp}
@@ -12,7 +12,7 @@ use Rattle.f2_model.specs.Tree.{Rows, walk}
 use Rattle.f2_model.specs.Call.{Limits}
 use Rattle.f2_model.specs.declared.rows.Row.{Row}
 use Rattle.f2_model.specs.declared.requests.Request.{Request}
-use Rattle.f2_model.specs.declared.requests.Request.TheVariants.{Create, Mkdir, Write, Truncate, Unlink, Rmdir, Rename, Read, List as ListNames, Fsync, Sync}
+use Rattle.f2_model.specs.declared.requests.Request.TheVariants.{Write, Truncate, Unlink, Rename}
 use Rattle.f2_model.specs.declared.replies.Plan.{Plan}
 use Rattle.f2_model.specs.declared.replies.Reply.{Reply}
 
@@ -88,9 +88,22 @@ rolled base (mark ∷ marks) = rolled (map.insert base mark.ino mark.row) marks
 -- the state in which nothing is known but what a mount will find: a base and marked rows
 abbrev pub initial : Rows → List Mark → State
 initial base marks = record {
-    live = rolled base marks; base = base; marks = marks; acknowledged = length marks; pending = None; mode = Shut; flights = map.empty;
-    dirty_pages = set.empty; dirty_nodes = set.empty; moved = set.empty; shrunk = set.empty; logged = set.empty;
-    node_writes = 0; data_writes = 0; entries = 0 }
+  live = rolled base marks;
+  base = base;
+  marks = marks;
+  acknowledged = length marks;
+  pending = None;
+  mode = Shut;
+  flights = map.empty;
+  dirty_pages = set.empty;
+  dirty_nodes = set.empty;
+  moved = set.empty;
+  shrunk = set.empty;
+  logged = set.empty;
+  node_writes = 0;
+  data_writes = 0;
+  entries = 0;
+}
 
 -- what a crash may leave of a state: the base with the marks up to any place from the last acknowledged on, or a pending tree
 abbrev pub MayRemain : State → Rows → List Mark → Type 0
@@ -144,7 +157,8 @@ dirtied state before after now_touched now_removed =
     record state {
       dirty_pages = with_pairs ino (without_pairs ino state.dirty_pages now_removed) now_touched;
       dirty_nodes = with_pairs ino (without_pairs ino state.dirty_nodes lost) (filter (has_direct after) lost ++ directs_of now_touched);
-      shrunk = if list_any (λ offset. not (has_direct after offset)) lost then set.insert state.shrunk ino else state.shrunk }
+      shrunk = if list_any (λ offset. not (has_direct after offset)) lost then set.insert state.shrunk ino else state.shrunk;
+    }
 
 -- the rows at the end of a walk in the trees before and after a call, where both are there
 abbrev pub with_rows : State → Result Row Reply → Result Row Reply → (Row → Row → State) → State

@@ -1,5 +1,5 @@
 -- One event of the abstract machine: what it may answer, which entries it leaves, and the state after it.
-use Rattle.std.specs.Prelude.{◌≡◌, ◌≢◌, ℕ, ◌+◌, ◌-◌, ◌^◌, ◌<◌, ◌≤◌, min, max, Bool, true, false, not, ◌&&◌, ◌||◌, nat_lt, nat_le, if◌then◌else◌, ◌==◌, ◌⊎◌, List, [], ◌∷◌, ◌++◌, take, length, is_some, MatchOption}
+use Rattle.std.specs.Prelude.{◌≡◌, ℕ, ◌+◌, ◌-◌, ◌^◌, ◌≤◌, min, max, Bool, true, false, not, ◌&&◌, nat_lt, nat_le, if◌then◌else◌, ◌==◌, ◌⊎◌, List, [], ◌∷◌, ◌++◌, take, length, is_some, MatchOption}
 use Rattle.std.specs.Prelude.{Option, Some, None, Result, Ok, Err}
 use Rattle.std.specs.Bool.{MatchBool}
 use Rattle.std.specs.List.{list_any, find, filter}
@@ -11,8 +11,7 @@ use Rattle.f2_model.specs.State.{State, Mark, Mode, Shut, Mounting, Up, Part, In
 use Rattle.f2_model.specs.Fallback.{fallback, owed, frozen_inos}
 use Rattle.f2_model.specs.declared.rows.Row.{Row}
 use Rattle.f2_model.specs.declared.requests.Request.{Request}
-use Rattle.f2_model.specs.declared.requests.Request.TheVariants.{Create, Mkdir, Write, Truncate, Unlink, Rmdir, Rename, Read, List as ListNames, Fsync, Sync}
-use Rattle.f2_model.specs.declared.replies.Reason.{Reason}
+use Rattle.f2_model.specs.declared.requests.Request.TheVariants.{Create, Mkdir, Write, Truncate, Unlink, Rename, Read, Fsync, Sync}
 use Rattle.f2_model.specs.declared.replies.Plan.{Plan}
 use Rattle.f2_model.specs.declared.replies.Plan.TheVariants as plan
 use Rattle.f2_model.specs.declared.replies.Begun.{Begun}
@@ -102,8 +101,11 @@ unchanged state answer = turned answer [] [] state
 -- an event after which the volume is closed, since its write or flush failed; a seat leaves
 abbrev pub closed_by_fault : Faults → ℕ → CallKind → Answer → Turn → Turn
 closed_by_fault faults seat call answer turn = record {
-    answer = answer; entries = turn.entries ++ entry.Fault seat call faults.after ∷ []; choices = turn.choices;
-    after = record turn.after { mode = Shut; flights = map.remove turn.after.flights seat; entries = turn.after.entries + 1 } }
+  answer = answer;
+  entries = turn.entries ++ entry.Fault seat call faults.after ∷ [];
+  choices = turn.choices;
+  after = record turn.after { mode = Shut; flights = map.remove turn.after.flights seat; entries = turn.after.entries + 1 };
+}
 
 -- an event that makes one write: it is so, or the write failed, and what it meant to write may stand all the same
 abbrev pub Writes : Faults → ℕ → Answer → Turn → Turn → Type 0
@@ -198,8 +200,8 @@ called state request ino = record (marked_dirty state request (effect state.live
 abbrev pub TakesEffect : Limits → State → ℕ → Request → Turn → Type 0
 TakesEffect limits state seat request turn =
     MatchBool (adds_row request)
-      ((ino : ℕ) × IsFreeIno limits state ino × (turn ≡ did state seat request (answer state.live request) (ino ∷ []) (called state request ino)))
-      (turn ≡ did state seat request (answer state.live request) [] (called state request 0))
+    ((ino : ℕ) × IsFreeIno limits state ino × (turn ≡ did state seat request (answer state.live request) (ino ∷ []) (called state request ino)))
+    (turn ≡ did state seat request (answer state.live request) [] (called state request 0))
 
 -- a read failed in a call of one event
 abbrev pub ReadFails : Faults → State → ℕ → Request → Turn → Type 0
@@ -210,17 +212,17 @@ ReadFails faults state seat request turn =
 abbrev pub BeginsCheck : State → ℕ → Request → Plan → Turn → Type 0
 BeginsCheck state seat request plan turn =
     MatchOption (least_in_flight state)
-      (turn ≡ turned (Began (Going plan)) (entry.Begin seat request ∷ entry.CpBegin seat plan ∷ []) [] (record state { flights = map.insert state.flights seat (InCheck plan) }))
-      (λ by. turn ≡ unchanged state (replied (reply.Busy by)))
+    (turn ≡ turned (Began (Going plan)) (entry.Begin seat request ∷ entry.CpBegin seat plan ∷ []) [] (record state { flights = map.insert state.flights seat (InCheck plan) }))
+    (λ by. turn ≡ unchanged state (replied (reply.Busy by)))
 
 -- an fsync of a row rolls forward, or begins a checkpoint for a reason
 abbrev pub BeginsFsync : Limits → State → ℕ → Request → Result Row Reply → Turn → Type 0
 BeginsFsync limits state seat request (Err refused) turn = turn ≡ did state seat request refused [] state
 BeginsFsync limits state seat request (Ok row) turn =
     MatchOption (fallback limits state row)
-      (turn ≡ turned (Began (Going plan.Roll)) (entry.Begin seat request ∷ []) []
-        (record state { flights = map.insert state.flights seat (InFsync row.ino (record { part = InPages; place = 0 })) }))
-      (λ reason. BeginsCheck state seat request (plan.Cp reason) turn)
+    (turn ≡ turned (Began (Going plan.Roll)) (entry.Begin seat request ∷ []) []
+    (record state { flights = map.insert state.flights seat (InFsync row.ino (record { part = InPages; place = 0 })) }))
+    (λ reason. BeginsCheck state seat request (plan.Cp reason) turn)
 
 -- the call that is neither refused by its paths nor kept off by another seat's fsync
 abbrev pub Serves : Limits → Faults → State → ℕ → Request → Turn → Type 0
@@ -228,8 +230,8 @@ Serves limits faults state seat (Fsync path) turn = BeginsFsync limits state sea
 Serves limits faults state seat Sync turn = BeginsCheck state seat Sync plan.Sync turn
 Serves limits faults state seat request turn =
     MatchOption (space_refusal limits (effect state.live request limits.nids))
-      (TakesEffect limits state seat request turn ⊎ ReadFails faults state seat request turn)
-      (λ refused. turn ≡ did state seat request refused [] state)
+    (TakesEffect limits state seat request turn ⊎ ReadFails faults state seat request turn)
+    (λ refused. turn ≡ did state seat request refused [] state)
 
 -- a call begins: the first test that holds decides
 abbrev pub StepBegin : Limits → Faults → State → ℕ → Request → Turn → Type 0
@@ -275,8 +277,8 @@ step_failed = Stepped (step.Replied reply.WriteFault)
 abbrev pub marked : State → ℕ → ℕ → Row → Turn
 marked state seat ino row =
     turned (Stepped step.Mark) (entry.Mark seat ino ∷ []) [] (
-      let after = at_part state seat ino Marked (length state.marks) in
-      record after { marks = state.marks ++ record { ino = ino; row = row } ∷ []; node_writes = state.node_writes + 1; logged = set.insert state.logged ino })
+    let after = at_part state seat ino Marked (length state.marks) in
+    record after { marks = state.marks ++ record { ino = ino; row = row } ∷ []; node_writes = state.node_writes + 1; logged = set.insert state.logged ino })
 
 -- the last flush of an fsync: every mark up to its own is acknowledged
 abbrev pub acknowledges : State → ℕ → ℕ → Stage → Turn
@@ -287,12 +289,12 @@ acknowledges state seat ino stage =
 abbrev pub StepFsync : Faults → State → ℕ → ℕ → Stage → Part → Turn → Type 0
 StepFsync faults state seat ino stage InPages turn =
     MatchOption (least_of state.dirty_pages ino)
-      (Flushes faults state seat step_failed (turned (Stepped step.Flushed) (entry.Flushed seat ∷ []) [] (at_part state seat ino InNodes 0)) turn)
-      (λ page. Writes faults seat step_failed (turned (Stepped (step.Page page)) (entry.WrotePage ino page ∷ []) [] (page_written state ino page)) turn)
+    (Flushes faults state seat step_failed (turned (Stepped step.Flushed) (entry.Flushed seat ∷ []) [] (at_part state seat ino InNodes 0)) turn)
+    (λ page. Writes faults seat step_failed (turned (Stepped (step.Page page)) (entry.WrotePage ino page ∷ []) [] (page_written state ino page)) turn)
 StepFsync faults state seat ino stage InNodes turn =
     MatchOption (least_of state.dirty_nodes ino)
-      (MatchOption (map.get state.live ino) ⊥ (λ row. Writes faults seat step_failed (marked state seat ino row) turn))
-      (λ offset. Writes faults seat step_failed (turned (Stepped (step.Node offset)) (entry.WroteNode ino offset ∷ []) [] (node_written state ino offset)) turn)
+    (MatchOption (map.get state.live ino) ⊥ (λ row. Writes faults seat step_failed (marked state seat ino row) turn))
+    (λ offset. Writes faults seat step_failed (turned (Stepped (step.Node offset)) (entry.WroteNode ino offset ∷ []) [] (node_written state ino offset)) turn)
 StepFsync faults state seat ino stage Marked turn = Flushes faults state seat step_failed (acknowledges state seat ino stage) turn
 
 -- the reply at the end of a checkpoint
@@ -303,8 +305,20 @@ reply_of_plan _ = reply.Synced
 -- the state in which a checkpoint is done: the tree is the base, and nothing was written since
 abbrev pub based : State → Rows → Mode → State
 based state tree mode = record state {
-    live = tree; base = tree; marks = []; acknowledged = 0; pending = None; mode = mode;
-    dirty_pages = set.empty; dirty_nodes = set.empty; moved = set.empty; shrunk = set.empty; logged = set.empty; node_writes = 0; data_writes = 0 }
+  live = tree;
+  base = tree;
+  marks = [];
+  acknowledged = 0;
+  pending = None;
+  mode = mode;
+  dirty_pages = set.empty;
+  dirty_nodes = set.empty;
+  moved = set.empty;
+  shrunk = set.empty;
+  logged = set.empty;
+  node_writes = 0;
+  data_writes = 0;
+}
 
 -- whether a checkpoint is an unmount's: the mount's seat makes it, and the volume was open
 abbrev pub is_unmount : State → ℕ → Bool
@@ -314,8 +328,8 @@ is_unmount state seat = is_up state.mode && (seat == MOUNT_SEAT)
 abbrev pub completes : State → ℕ → Plan → Turn
 completes state seat plan =
     turned (Stepped (step.Replied (reply_of_plan plan)))
-      (if is_unmount state seat then (entry.CpDone seat ∷ entry.Unmounted ∷ []) else (entry.CpDone seat ∷ [])) []
-      (left (based state state.live (if is_unmount state seat then Shut else Up)) seat)
+    (if is_unmount state seat then (entry.CpDone seat ∷ entry.Unmounted ∷ []) else (entry.CpDone seat ∷ [])) []
+    (left (based state state.live (if is_unmount state seat then Shut else Up)) seat)
 
 -- a checkpoint writes a block, or makes its first flush
 abbrev pub WritesBlock : Faults → State → ℕ → Turn → Type 0
@@ -327,9 +341,9 @@ WritesBlock faults state seat turn =
 abbrev pub StepCheck : Faults → State → ℕ → Plan → Turn → Type 0
 StepCheck faults state seat plan turn =
     MatchOption state.pending
-      (WritesBlock faults state seat turn
-        ⊎ Writes faults seat step_failed (turned (Stepped step.Tail) (entry.CpTail seat ∷ []) [] (record state { pending = Some state.live })) turn)
-      (λ tree. Flushes faults state seat step_failed (completes state seat plan) turn)
+    (WritesBlock faults state seat turn
+    ⊎ Writes faults seat step_failed (turned (Stepped step.Tail) (entry.CpTail seat ∷ []) [] (record state { pending = Some state.live })) turn)
+    (λ tree. Flushes faults state seat step_failed (completes state seat plan) turn)
 
 -- one event of a call in flight
 abbrev pub StepFlight : Faults → State → ℕ → Flight → Turn → Type 0
@@ -340,11 +354,11 @@ StepFlight faults state seat (InCheck plan) turn = StepCheck faults state seat p
 abbrev pub StepGo : Faults → State → ℕ → Turn → Type 0
 StepGo faults state seat turn =
     MatchOption (map.get state.flights seat)
-      (turn ≡ unchanged state (Stepped step.None))
-      (λ flight.
-        MatchBool (is_shut state.mode)
-          (turn ≡ turned (Stepped (step.Replied reply.Closed)) [] [] (left state seat))
-          (StepFlight faults state seat flight turn))
+    (turn ≡ unchanged state (Stepped step.None))
+    (λ flight.
+    MatchBool (is_shut state.mode)
+    (turn ≡ turned (Stepped (step.Replied reply.Closed)) [] [] (left state seat))
+    (StepFlight faults state seat flight turn))
 
 -- the least dirty page, or direct node, of a file that isn't in fsync
 abbrev pub least_thawed : State → Pairs → Option (ℕ × ℕ)
@@ -364,14 +378,14 @@ is_clean state = set.len state.dirty_pages == 0 && set.len state.dirty_nodes == 
 abbrev pub TicksPage : Limits → Faults → State → ℕ × ℕ → Turn → Type 0
 TicksPage limits faults state page turn =
     MatchBool (has_data_room limits state)
-      (Writes faults NO_SEAT (Ticked tick.WriteFault) (turned (Ticked tick.Data) (entry.WrotePage page.0 page.1 ∷ []) [] (page_written state page.0 page.1)) turn)
-      (turn ≡ unchanged state (Ticked tick.Room))
+    (Writes faults NO_SEAT (Ticked tick.WriteFault) (turned (Ticked tick.Data) (entry.WrotePage page.0 page.1 ∷ []) [] (page_written state page.0 page.1)) turn)
+    (turn ≡ unchanged state (Ticked tick.Room))
 
 abbrev pub TicksNode : Limits → Faults → State → ℕ × ℕ → Turn → Type 0
 TicksNode limits faults state node turn =
     MatchBool (has_node_room limits state)
-      (Writes faults NO_SEAT (Ticked tick.WriteFault) (turned (Ticked tick.Node) (entry.WroteNode node.0 node.1 ∷ []) [] (node_written state node.0 node.1)) turn)
-      (turn ≡ unchanged state (Ticked tick.Room))
+    (Writes faults NO_SEAT (Ticked tick.WriteFault) (turned (Ticked tick.Node) (entry.WroteNode node.0 node.1 ∷ []) [] (node_written state node.0 node.1)) turn)
+    (turn ≡ unchanged state (Ticked tick.Room))
 
 -- one event of the flusher
 abbrev pub StepTick : Limits → Faults → State → Turn → Type 0
@@ -381,18 +395,22 @@ StepTick limits faults state turn =
     MatchBool (is_some (checking_seat state)) (turn ≡ unchanged state (Ticked tick.Busy)) (
     MatchBool (is_clean state) (turn ≡ unchanged state (Ticked tick.Idle)) (
     MatchOption (least_thawed state state.dirty_pages)
-      (MatchOption (least_thawed state state.dirty_nodes)
-        (turn ≡ unchanged state (Ticked tick.Busy))
-        (λ node. TicksNode limits faults state node turn))
-      (λ page. TicksPage limits faults state page turn)))))
+    (MatchOption (least_thawed state state.dirty_nodes)
+    (turn ≡ unchanged state (Ticked tick.Busy))
+    (λ node. TicksNode limits faults state node turn))
+    (λ page. TicksPage limits faults state page turn)))))
 
 -- a mount finds a base and marks: all is as a crash left it, and its own checkpoint begins
 abbrev pub found : State → Rows → List Mark → ℕ → Turn
 found state base marks choice =
     turned (Found (length marks)) (entry.Mounted (length marks) ∷ entry.CpBegin MOUNT_SEAT plan.Sync ∷ []) (choice ∷ []) (
-      let after = based state base Mounting in
-      record after {
-        live = rolled base marks; marks = marks; acknowledged = length marks; flights = map.insert map.empty MOUNT_SEAT (InCheck plan.Sync) })
+    let after = based state base Mounting in
+    record after {
+      live = rolled base marks;
+      marks = marks;
+      acknowledged = length marks;
+      flights = map.insert map.empty MOUNT_SEAT (InCheck plan.Sync);
+    })
 
 -- the marks up to a place, from the last acknowledged on
 abbrev pub FindsMarks : State → Turn → Type 0
@@ -412,21 +430,21 @@ MountFails faults state refused call turn =
 abbrev pub StepMount : Faults → State → Turn → Type 0
 StepMount faults state turn =
     MatchBool (not (is_shut state.mode)) (turn ≡ unchanged state AlreadyMounted)
-      (FindsMarks state turn
-        ⊎ FindsPending state turn
-        ⊎ MountFails faults state ReadFailed kind.Read turn
-        ⊎ MountFails faults state WriteFailed kind.Flush turn
-        ⊎ (turn ≡ unchanged state (NotMounted BadImage))
-        ⊎ (turn ≡ unchanged state (NotMounted NoMemory)))
+    (FindsMarks state turn
+    ⊎ FindsPending state turn
+    ⊎ MountFails faults state ReadFailed kind.Read turn
+    ⊎ MountFails faults state WriteFailed kind.Flush turn
+    ⊎ (turn ≡ unchanged state (NotMounted BadImage))
+    ⊎ (turn ≡ unchanged state (NotMounted NoMemory)))
 
 -- an unmount begins
 abbrev pub StepUnmount : State → Turn → Type 0
 StepUnmount state turn =
     MatchBool (not (is_up state.mode)) (turn ≡ unchanged state (replied reply.Closed)) (
     MatchOption (least_in_flight state)
-      (turn ≡ turned (Began (Going plan.Sync)) (entry.CpBegin MOUNT_SEAT plan.Sync ∷ []) []
-        (record state { flights = map.insert state.flights MOUNT_SEAT (InCheck plan.Sync) }))
-      (λ by. turn ≡ unchanged state (replied (reply.Busy by))))
+    (turn ≡ turned (Began (Going plan.Sync)) (entry.CpBegin MOUNT_SEAT plan.Sync ∷ []) []
+    (record state { flights = map.insert state.flights MOUNT_SEAT (InCheck plan.Sync) }))
+    (λ by. turn ≡ unchanged state (replied (reply.Busy by))))
 
 -- power is lost
 abbrev pub crashed : State → Turn

@@ -1,5 +1,5 @@
 -- The file tree: rows by their inos, how a path leads through it, and what makes a tree good.
-use Rattle.std.specs.Prelude.{◌≡◌, ◌≢◌, ℕ, zero, suc, ◌+◌, ◌-◌, ◌*◌, ◌/◌, ◌%◌, ◌<◌, ◌≤◌, Bool, true, false, not, ◌&&◌, if◌then◌else◌, List, [], ◌∷◌, map as map_list, length, take, IsTrue, ◌==◌, slice_index, slice_index_or, ⊤}
+use Rattle.std.specs.Prelude.{◌≡◌, ◌≢◌, ℕ, zero, suc, ◌+◌, ◌-◌, ◌*◌, ◌<◌, ◌≤◌, Bool, true, false, ◌&&◌, if◌then◌else◌, List, [], ◌∷◌, map as map_list, length, take, IsTrue, ◌==◌, slice_index, slice_index_or}
 use Rattle.std.specs.Prelude.{Option, Some, None, Result, Ok, Err}
 use Rattle.std.specs.List.{find, filter, list_any, flat_map}
 use Rattle.std.specs.Ordering.{nat_cmp}

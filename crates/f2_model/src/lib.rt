@@ -13,6 +13,7 @@
 mod bounds;
 mod histories;
 mod lists;
+mod machines;
 mod meets;
 mod names;
 mod page_maps;
@@ -27,6 +28,7 @@ mod trees;
 pub use bounds::Limits;
 pub use histories::{CallKind, Entry, Log};
 pub use lists::{Bytes, Items, Name, Names, Numbers, Path};
+pub use machines::Machine;
 pub use meets::Meet;
 pub use page_maps::{Block, Pages};
 pub use replies::{Begun, Outcome, Plan, Reason, Replies, Reply, Space, Step, Tick};
