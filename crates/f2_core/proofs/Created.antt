@@ -87,16 +87,17 @@ pub made-IsCore : (limits : Limits) (tree new : Rows) (before after : History) (
 made-IsCore limits tree new before after seat ino path core grown early added entries choices spare =
     let n = length before.entries in
     let run = run-once limits (initial bare_tree []) (state_of tree true n) before.entries before.choices (Begin seat (Create path)) (made_turn tree n seat ino path) core.run
-          (made_step limits tree new n seat ino path core.nids core.grown early added) in
+    (made_step limits tree new n seat ino path core.nids core.grown early added) in
     let more = one_more before.entries after.entries _ entries in
     record {
       run = subst (λ e. IsRunWithRoom limits (initial bare_tree []) e after.choices (state_of new true (length after.entries))) (sym entries)
           (subst (λ c. IsRunWithRoom limits (initial bare_tree []) (before.entries ++ entry.Did seat (Create path) outcome.Done ∷ []) c (state_of new true (length after.entries))) (sym choices)
-            (subst (IsRunWithRoom limits (initial bare_tree []) (before.entries ++ entry.Did seat (Create path) outcome.Done ∷ []) (before.choices ++ ino ∷ [])) (made_state limits tree new n (length after.entries) seat ino path added more) run));
+          (subst (IsRunWithRoom limits (initial bare_tree []) (before.entries ++ entry.Did seat (Create path) outcome.Done ∷ []) (before.choices ++ ino ∷ [])) (made_state limits tree new n (length after.entries) seat ino path added more) run));
       nids = core.nids;
       grown = grown;
       closed = λ shut. absurd (true≢false shut);
-      room = λ _. room_left before after _ entries spare (core.room refl) }
+      room = λ _. room_left before after _ entries spare (core.room refl);
+    }
 
 pub refused-IsCore : (limits : Limits) (tree new : Rows) (before after : History) (seat : ℕ) (refused : Reply) (path : List (List ℕ)) → IsCore limits tree true before → IsGrown limits new → length before.entries < MOST_ENTRIES
     → IsKeptOut limits tree path refused → new ≡ tree → after.entries ≡ before.entries ++ entry.Did seat (Create path) (outcome_of refused) ∷ [] → after.choices ≡ before.choices ++ [] → after.spare + 1 ≡ before.spare
@@ -104,16 +105,17 @@ pub refused-IsCore : (limits : Limits) (tree new : Rows) (before after : History
 refused-IsCore limits tree new before after seat refused path core grown early out same entries choices spare =
     let n = length before.entries in
     let run = run-once limits (initial bare_tree []) (state_of tree true n) before.entries before.choices (Begin seat (Create path)) (refused_turn tree n seat refused path) core.run
-          (refused_step limits tree n seat path refused core.nids core.grown early out) in
+    (refused_step limits tree n seat path refused core.nids core.grown early out) in
     let more = one_more before.entries after.entries _ entries in
     record {
       run = subst (λ e. IsRunWithRoom limits (initial bare_tree []) e after.choices (state_of new true (length after.entries))) (sym entries)
           (subst (λ c. IsRunWithRoom limits (initial bare_tree []) (before.entries ++ entry.Did seat (Create path) (outcome_of refused) ∷ []) c (state_of new true (length after.entries))) (sym choices)
-            (subst (IsRunWithRoom limits (initial bare_tree []) (before.entries ++ entry.Did seat (Create path) (outcome_of refused) ∷ []) (before.choices ++ [])) (refused_state tree new n (length after.entries) seat refused path same more) run));
+          (subst (IsRunWithRoom limits (initial bare_tree []) (before.entries ++ entry.Did seat (Create path) (outcome_of refused) ∷ []) (before.choices ++ [])) (refused_state tree new n (length after.entries) seat refused path same more) run));
       nids = core.nids;
       grown = grown;
       closed = λ shut. absurd (true≢false shut);
-      room = λ _. room_left before after _ entries spare (core.room refl) }
+      room = λ _. room_left before after _ entries spare (core.room refl);
+    }
 
 -- what contracts see of an open core
 abbrev pub seen : {D : Type 0} → D → Limits → Rows → Bool → History → Seen D
@@ -124,13 +126,13 @@ pub made-ComesTo : {D : Type 0} (disk : D) (limits : Limits) (tree new : Rows) (
     → ComesTo (seen disk limits tree true before) (seen disk limits new true after) (Begin seat (Create path)) (replied reply.Done)
 made-ComesTo disk limits tree new before after seat ino path core early added entries choices =
     comes-once _ _ (Begin seat (Create path)) (replied reply.Done) (made_turn tree (length before.entries) seat ino path)
-      (made_step limits tree new (length before.entries) seat ino path core.nids core.grown early added) refl
-      (made_state limits tree new (length before.entries) (length after.entries) seat ino path added (one_more before.entries after.entries _ entries)) entries choices refl refl
+    (made_step limits tree new (length before.entries) seat ino path core.nids core.grown early added) refl
+    (made_state limits tree new (length before.entries) (length after.entries) seat ino path added (one_more before.entries after.entries _ entries)) entries choices refl refl
 
 pub refused-ComesTo : {D : Type 0} (disk : D) (limits : Limits) (tree new : Rows) (before after : History) (seat : ℕ) (refused : Reply) (path : List (List ℕ)) → IsCore limits tree true before → length before.entries < MOST_ENTRIES
     → IsKeptOut limits tree path refused → new ≡ tree → after.entries ≡ before.entries ++ entry.Did seat (Create path) (outcome_of refused) ∷ [] → after.choices ≡ before.choices ++ []
     → ComesTo (seen disk limits tree true before) (seen disk limits new true after) (Begin seat (Create path)) (replied refused)
 refused-ComesTo disk limits tree new before after seat refused path core early out same entries choices =
     comes-once _ _ (Begin seat (Create path)) (replied refused) (refused_turn tree (length before.entries) seat refused path)
-      (refused_step limits tree (length before.entries) seat path refused core.nids core.grown early out) refl
-      (refused_state tree new (length before.entries) (length after.entries) seat refused path same (one_more before.entries after.entries _ entries)) entries choices refl refl
+    (refused_step limits tree (length before.entries) seat path refused core.nids core.grown early out) refl
+    (refused_state tree new (length before.entries) (length after.entries) seat refused path same (one_more before.entries after.entries _ entries)) entries choices refl refl

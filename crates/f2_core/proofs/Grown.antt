@@ -38,5 +38,5 @@ IsGrown-insert tree row grown fits =
       fits = omega (arith, len, fits);
       dense = λ ino other e.
           let at = below-more tree row other ino grown _ refl (sym (map.get-insert nat_cmp_total tree (map.len tree + 3) row ino) ∙ e) in
-          omega (arith, len, at)
+          omega (arith, len, at);
     }

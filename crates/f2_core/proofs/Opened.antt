@@ -40,9 +40,10 @@ len-bare =
 
 pub bare-IsGrown : (limits : Limits) → 1 ≤ limits.nodes → IsGrown limits bare_tree
 bare-IsGrown limits nodes = record {
-    rooted = omega (arith, len-bare);
-    fits = omega (arith, len-bare, nodes);
-    dense = λ ino row e. let at = bare-dense _ ino row refl (sym (map.get-insert nat_cmp_total map.empty ROOT root_row ino) ∙ e) in omega (arith, len-bare, at) }
+  rooted = omega (arith, len-bare);
+  fits = omega (arith, len-bare, nodes);
+  dense = λ ino row e. let at = bare-dense _ ino row refl (sym (map.get-insert nat_cmp_total map.empty ROOT root_row ino) ∙ e) in omega (arith, len-bare, at);
+}
 
 pub shut-IsCore : (limits : Limits) (tree : Rows) (history : History) → 1 ≤ limits.nodes → 3 * limits.nodes + 4 ≤ limits.nids → tree ≡ bare_tree → history ≡ record { entries = []; choices = []; spare = 0 } → IsCore limits tree false history
 shut-IsCore limits tree history nodes nids bare none =
@@ -51,7 +52,8 @@ shut-IsCore limits tree history nodes nids bare none =
       nids = nids;
       grown = bare-IsGrown limits nodes;
       closed = λ _. (refl, refl, refl);
-      room = λ opened. absurd (true≢false (sym opened)) }))
+      room = λ opened. absurd (true≢false (sym opened));
+    }))
 
 module _ {D : Type 0} (disk : D) (limits : Limits) (tree : Rows) (history : History) where
   -- a closed core answers that it is closed, a spent one that it is spent, and an open one that it is mounted
@@ -69,7 +71,7 @@ module _ {D : Type 0} (disk : D) (limits : Limits) (tree : Rows) (history : Hist
       → ComesTo (seen disk limits tree is_open history) (seen disk limits new is_open history) (Begin seat (Create path)) (replied reply.Memory)
   memory-ComesTo new seat path is_open same =
       subst (λ t. ComesTo (seen disk limits tree is_open history) (seen disk limits t is_open history) (Begin seat (Create path)) (replied reply.Memory)) (sym same)
-        (comes-unchanged _ _ _ (λ room. inr refl))
+      (comes-unchanged _ _ _ (λ room. inr refl))
 
   pub mounted-ComesTo : (is_open : Bool) → is_open ≡ true → ComesTo (seen disk limits tree is_open history) (seen disk limits tree is_open history) Mount machine.AlreadyMounted
   mounted-ComesTo true is = comes-unchanged _ _ _ (λ room. refl)
@@ -80,7 +82,7 @@ module _ {D : Type 0} (disk : D) (limits : Limits) (tree : Rows) (history : Hist
   unmounted-ComesTo after true is same = absurd (true≢false is)
   unmounted-ComesTo after false is same =
       subst (λ h. ComesTo (seen disk limits tree false history) (seen disk limits tree false h) Mount (machine.NotMounted machine.NoMemory)) (sym same)
-        (comes-unchanged _ _ _ (λ room. inr (inr (inr (inr (inr refl))))))
+      (comes-unchanged _ _ _ (λ room. inr (inr (inr (inr (inr refl))))))
 
 -- the turns of a mount's checkpoint: it finds the bare tree, writes its tail and is done
 abbrev pub found_turn : ℕ → Turn
@@ -118,10 +120,13 @@ opened : (tree : Rows) (n m : ℕ) → tree ≡ bare_tree → n + 2 + 1 + 1 ≡ 
 opened tree n m bare e = λ i. record (state_of (sym bare i) true (e i)) { flights = nobody_left i }
 
 mount-Happened : (limits : Limits) (tree : Rows) (n m : ℕ) → tree ≡ bare_tree → n + 2 + 1 + 1 ≡ m → HappenedWithRoom limits (state_of bare_tree false n) (mounting n) (state_of tree true m)
-mount-Happened limits tree n m bare e =
-    ((λ _. inl (0, omega arith, omega arith, refl)),
-      ((λ _. on_some (map.get check_flight MOUNT_SEAT) _ _ (InCheck plan.Sync) in_check (inr (inl refl))),
-        ((λ _. on_some (map.get check_flight MOUNT_SEAT) _ _ (InCheck plan.Sync) in_check (inl refl)), opened tree n m bare e)))
+mount-Happened limits tree n m bare e = (
+  (λ _. inl (0, omega arith, omega arith, refl)),
+  (
+    (λ _. on_some (map.get check_flight MOUNT_SEAT) _ _ (InCheck plan.Sync) in_check (inr (inl refl))),
+    ((λ _. on_some (map.get check_flight MOUNT_SEAT) _ _ (InCheck plan.Sync) in_check (inl refl)), opened tree n m bare e),
+  ),
+)
 
 -- what a mount leaves of a history, entry by entry
 abbrev pub mount_entries : List Entry
@@ -151,7 +156,7 @@ module _ (limits : Limits) (tree : Rows) (before after : History) (core : IsCore
   unfolding bare
   happened =
       subst (λ t. HappenedWithRoom limits (state_of t false (length before.entries)) (mounting (length before.entries)) (state_of tree true (length after.entries))) (sym bare)
-        (mount-Happened limits tree (length before.entries) (length after.entries) bare (length-mounted before.entries after.entries entries))
+      (mount-Happened limits tree (length before.entries) (length after.entries) bare (length-mounted before.entries after.entries entries))
 
   pub mount-IsCore : after.spare + 4 ≡ HISTORY_ROOM → IsCore limits tree true after
   mount-IsCore spare =
@@ -163,14 +168,16 @@ module _ (limits : Limits) (tree : Rows) (before after : History) (core : IsCore
         nids = core.nids;
         grown = core.grown;
         closed = λ shut. absurd (true≢false shut);
-        room = λ _. omega (arith, length-mounted before.entries after.entries entries, none, spare) }
+        room = λ _. omega (arith, length-mounted before.entries after.entries entries, none, spare);
+      }
 
   pub mount-ComesTo : {D : Type 0} (disk : D) → ComesTo (seen disk limits tree false before) (seen disk limits tree true after) Mount (machine.Found 0)
   mount-ComesTo disk = record {
-      events = mounting (length before.entries);
-      happened = happened;
-      told = (refl, refl, (refl, (refl, tt)));
-      entries = entries;
-      choices = choices;
-      limits = refl;
-      disk = refl }
+    events = mounting (length before.entries);
+    happened = happened;
+    told = (refl, refl, (refl, (refl, tt)));
+    entries = entries;
+    choices = choices;
+    limits = refl;
+    disk = refl;
+  }

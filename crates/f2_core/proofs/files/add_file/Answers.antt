@@ -30,7 +30,8 @@ returns-clause-added c =
       none = placed.0;
       next = ap (λ rows. rows + 3) c.len-rows.ensures.len;
       fits = omega (arith, c.len-rows.ensures.len, c.if-rows-limits.false);
-      tree = rw c.len-rows.ensures.len (added c ∙ sym (effect-create c.args.limits c.args.tree.now c.args.path.now placed.1.0 (map.len c.args.tree.now + 3) c.in-Ok.parent placed.1.1 placed.1.2)) }
+      tree = rw c.len-rows.ensures.len (added c ∙ sym (effect-create c.args.limits c.args.tree.now c.args.path.now placed.1.0 (map.len c.args.tree.now + 3) c.in-Ok.parent placed.1.1 placed.1.2));
+    }
 
 pub returns-clause-grown : goal.returns-clause-grown
 returns-clause-grown c =

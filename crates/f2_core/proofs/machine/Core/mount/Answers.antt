@@ -16,7 +16,7 @@ pub returns-then-is_err : goal.returns-then-is_err
 returns-then-is_err g c =
     let was = c.self.inside in
     subst (λ old. ComesTo old (seen was.disk was.limits was.tree was.is_open c.room.new.self) Mount (NotMounted NoMemory)) c.self.view_is
-      (unmounted-ComesTo was.disk was.limits was.tree was.history c.room.new.self was.is_open c.if-self.false (on_err c.room.result (sym c.is_err.ensures.value ∙ c.if-is_err.true) c.room.ensures.err))
+    (unmounted-ComesTo was.disk was.limits was.tree was.history c.room.new.self was.is_open c.if-self.false (on_err c.room.result (sym c.is_err.ensures.value ∙ c.if-is_err.true) c.room.ensures.err))
 
 pub invariant_of-self-2 : goal.invariant_of-self-2
 invariant_of-self-2 g c =
@@ -25,9 +25,9 @@ invariant_of-self-2 g c =
     let core = subst (λ o. IsCore was.limits was.tree o was.history) c.if-self.false c.self.invariant in
     let spare : c.room.new.self.spare ≡ HISTORY_ROOM = ap (λ h. h.spare) taken ∙ ap (λ n. max n HISTORY_ROOM) ((core.closed refl).2) in
     mount-IsCore was.limits was.tree was.history c.add-4.new.self core
-      (mounted_entries was.history c.room.new.self c.add.new.self c.add-2.new.self c.add-3.new.self c.add-4.new.self taken c.add.ensures.entries c.add-2.ensures.entries c.add-3.ensures.entries c.add-4.ensures.entries)
-      (mounted_choices was.history c.room.new.self c.add.new.self c.add-2.new.self c.add-3.new.self c.add-4.new.self taken c.add.ensures.choices c.add-2.ensures.choices c.add-3.ensures.choices c.add-4.ensures.choices)
-      (omega (arith, spare, c.add.ensures.spare, c.add-2.ensures.spare, c.add-3.ensures.spare, c.add-4.ensures.spare))
+    (mounted_entries was.history c.room.new.self c.add.new.self c.add-2.new.self c.add-3.new.self c.add-4.new.self taken c.add.ensures.entries c.add-2.ensures.entries c.add-3.ensures.entries c.add-4.ensures.entries)
+    (mounted_choices was.history c.room.new.self c.add.new.self c.add-2.new.self c.add-3.new.self c.add-4.new.self taken c.add.ensures.choices c.add-2.ensures.choices c.add-3.ensures.choices c.add-4.ensures.choices)
+    (omega (arith, spare, c.add.ensures.spare, c.add-2.ensures.spare, c.add-3.ensures.spare, c.add-4.ensures.spare))
 
 pub returns : goal.returns
 returns g c =
@@ -35,8 +35,8 @@ returns g c =
     let taken = on_ok c.room.result (sym c.is_err.ensures.value ∙ c.if-is_err.false) c.room.ensures.ok in
     let core = subst (λ o. IsCore was.limits was.tree o was.history) c.if-self.false c.self.invariant in
     subst (λ old. ComesTo old (seen was.disk was.limits was.tree true c.add-4.new.self) Mount (Found 0)) c.self.view_is
-      (subst (λ o. ComesTo (seen was.disk was.limits was.tree o was.history) (seen was.disk was.limits was.tree true c.add-4.new.self) Mount (Found 0)) (sym c.if-self.false)
-        (mount-ComesTo was.limits was.tree was.history c.add-4.new.self core
-          (mounted_entries was.history c.room.new.self c.add.new.self c.add-2.new.self c.add-3.new.self c.add-4.new.self taken c.add.ensures.entries c.add-2.ensures.entries c.add-3.ensures.entries c.add-4.ensures.entries)
-          (mounted_choices was.history c.room.new.self c.add.new.self c.add-2.new.self c.add-3.new.self c.add-4.new.self taken c.add.ensures.choices c.add-2.ensures.choices c.add-3.ensures.choices c.add-4.ensures.choices)
-          was.disk))
+    (subst (λ o. ComesTo (seen was.disk was.limits was.tree o was.history) (seen was.disk was.limits was.tree true c.add-4.new.self) Mount (Found 0)) (sym c.if-self.false)
+    (mount-ComesTo was.limits was.tree was.history c.add-4.new.self core
+    (mounted_entries was.history c.room.new.self c.add.new.self c.add-2.new.self c.add-3.new.self c.add-4.new.self taken c.add.ensures.entries c.add-2.ensures.entries c.add-3.ensures.entries c.add-4.ensures.entries)
+    (mounted_choices was.history c.room.new.self c.add.new.self c.add-2.new.self c.add-3.new.self c.add-4.new.self taken c.add.ensures.choices c.add-2.ensures.choices c.add-3.ensures.choices c.add-4.ensures.choices)
+    was.disk))
