@@ -1,4 +1,4 @@
-use Rattle.std.proofs.Common.{◌≡◌, ℕ, List, map as map_list}
+use Rattle.std.proofs.Common.{◌≡◌, map as map_list}
 use Rattle.std.specs.List.{fold, filter}
 use Rattle.std.specs.Ordering.{nat_cmp}
 use Rattle.std.specs.Cmp.Lexicographic.{slice_cmp}
