@@ -9,6 +9,8 @@
 
 ghost use Rattle.std.specs.Prelude.{◌≡◌, ◌+◌, ◌≤◌};
 ghost use Rattle.f2_format.specs.Bytes.{number_at, number_bytes, with_bytes};
+ghost use Rattle.f2_format.specs.Seal.{seal_of};
+ghost use Rattle.f2_bytes.specs.Register.{register_with, shifted_of};
 
 use byteorder::{ByteOrder, LittleEndian};
 
@@ -67,4 +69,81 @@ pub fn put64(b: &mut Block, at: usize, v: u64)
     ensures reads_back { number_at 8 b.new at ≡ v }
 {
     LittleEndian::write_u64(&mut b[at..], v);
+}
+
+/// The bytes of a block that its seal covers; the seal stands in the four bytes after them.
+const SEALED_BYTES: usize = 4092;
+
+/// The polynomial of the check sum but for its highest power, the lowest bit first.
+const POLYNOMIAL: u32 = 0xEDB8_8320;
+
+/// What is added to the first 32 bits.
+const SEED: u32 = 0xF2F5_2010;
+
+/// The seal that the block should have: the check sum of its first 4,092 bytes, with no last complement.
+///
+/// It is the remainder of a division of polynomials, which `f2_format` defines; here a register of 32 bits
+/// takes in one byte after another.
+pub fn seal(b: &Block) -> u32
+    ensures { result ≡ seal_of b.now }
+{
+    let mut register = SEED;
+    for byte in &b[..SEALED_BYTES] {
+        register = with_byte(register, *byte);
+    }
+    register
+}
+
+/// The register once a byte was taken in.
+fn with_byte(register: u32, byte: u8) -> u32
+    ensures { result ≡ register_with register byte }
+{
+    let mut register = register ^ byte as u32;
+    for _ in 0..u8::BITS {
+        register = shifted(register);
+    }
+    register
+}
+
+/// The register once its highest power, which is its lowest bit, was divided away.
+fn shifted(register: u32) -> u32
+    ensures { result ≡ shifted_of register }
+{
+    if register & 1 == 1 {
+        register >> 1 ^ POLYNOMIAL
+    } else {
+        register >> 1
+    }
+}
+
+#[cfg(test)]
+mod tests {
+    use super::*;
+    use std::test::Fail;
+
+    #[test]
+    fn the_lowest_byte_is_first(rt: HostRuntime) -> Result<(), Fail> {
+        let mut block = [9; 4096];
+        put16(&mut block, 0, 0x0201);
+        put32(&mut block, 2, 0x0403_0201);
+        put64(&mut block, 4088, 0x0807_0605_0403_0201);
+        assert_eq!(rt; &block[..7], [1, 2, 1, 2, 3, 4, 9].as_slice());
+        assert_eq!(rt; &block[4087..], [9, 1, 2, 3, 4, 5, 6, 7, 8].as_slice());
+        assert_eq!(rt; (get16(&block, 0), get32(&block, 2)), (0x0201, 0x0403_0201));
+        assert_eq!(rt; get64(&block, 4088), 0x0807_0605_0403_0201);
+        Ok(())
+    }
+
+    // The values are those of CRC-32 with this seed and no complement, as zlib computes it.
+    #[test]
+    fn seals_are_check_sums(rt: HostRuntime) -> Result<(), Fail> {
+        let mut block = [0; 4096];
+        assert_eq!(rt; seal(&block), 0x169B_1BA7);
+        put16(&mut block, 10, 0x1234);
+        block[4091] = 0x80;
+        assert_eq!(rt; seal(&block), 0xCBCC_086C);
+        block[4092] = 1;
+        assert_eq!(rt; seal(&block), 0xCBCC_086C);
+        Ok(())
+    }
 }

@@ -22,7 +22,7 @@ pub len-grown : {limits : Limits} (tree : Rows) (row : Row) → IsGrown limits t
 len-grown tree row grown = let free = fresh-grown tree grown in grind (gets, arith, free)
 
 -- a key that ties is the key
-tied : (x y : ℕ) → eq_by_cmp nat_cmp x y ≡ true → x ≡ y
+pub tied : (x y : ℕ) → eq_by_cmp nat_cmp x y ≡ true → x ≡ y
 tied x y e = let is : (x == y) ≡ true = sym (unsigned_tied x y) ∙ e in grind (arith, is)
 
 -- where an entry of the longer tree stands
@@ -38,5 +38,5 @@ IsGrown-insert tree row grown fits =
       fits = omega (arith, len, fits);
       dense = λ ino other e.
           let at = below-more tree row other ino grown _ refl (sym (map.get-insert nat_cmp_total tree (map.len tree + 3) row ino) ∙ e) in
-          omega (arith, len, at)
+          omega (arith, len, at);
     }

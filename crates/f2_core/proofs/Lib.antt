@@ -3,3 +3,4 @@ pub mod Grown
 pub mod Steps
 pub mod Runs
 pub mod Created
+pub mod Opened

@@ -1,5 +1,5 @@
 -- The refusals of a create, test by test.
-use Rattle.std.proofs.Common.{◌≡◌, ℕ, Bool, true, false, List, Some, None, Result, Ok, Err, is_ok, is_err, MatchResult, OnOk, refl, ap, sym}
+use Rattle.std.proofs.Common.{◌≡◌, ℕ, Bool, true, false, List, Some, None, Result, Ok, Err, is_ok, is_err, MatchResult, OnOk, OnErr, refl, ap, sym}
 use mathlib.Core.Bool.{true≢false}
 use Rattle.f2_model.specs.declared.bounds.Limits.{Limits}
 use Rattle.f2_model.specs.Names.{is_good_path}
@@ -37,3 +37,7 @@ is_ok-told now (Err refused) walked e = ap is_ok (sym e)
 pub on_ok : {A E : Type 0} {P : Type 0} (result : Result A E) → is_err result ≡ false → OnOk result P → P
 on_ok (Ok x) none p = p
 on_ok (Err e) none p = absurd (true≢false none)
+
+pub on_err : {A E : Type 0} {P : Type 0} (result : Result A E) → is_err result ≡ true → OnErr result P → P
+on_err (Ok x) none p = absurd (true≢false (sym none))
+on_err (Err e) none p = p

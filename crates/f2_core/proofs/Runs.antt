@@ -24,10 +24,11 @@ happened-append limits from mid to (x ∷ xs) ys first more = (first.0, happened
 pub run-append : (limits : Limits) (from mid to : State) (es : List Entry) (cs : List ℕ) (ys : List Happening) → IsRunWithRoom limits from es cs mid → HappenedWithRoom limits mid ys to
     → IsRunWithRoom limits from (es ++ entries_of ys) (cs ++ choices_of ys) to
 run-append limits from mid to es cs ys run more = record {
-    events = run.events ++ ys;
-    happened = happened-append limits from mid to run.events ys run.happened more;
-    entries_left = ap (λ e. e ++ entries_of ys) run.entries_left ∙ sym (flat_map-append _ run.events ys);
-    choices_left = ap (λ c. c ++ choices_of ys) run.choices_left ∙ sym (flat_map-append _ run.events ys) }
+  events = run.events ++ ys;
+  happened = happened-append limits from mid to run.events ys run.happened more;
+  entries_left = ap (λ e. e ++ entries_of ys) run.entries_left ∙ sym (flat_map-append _ run.events ys);
+  choices_left = ap (λ c. c ++ choices_of ys) run.choices_left ∙ sym (flat_map-append _ run.events ys);
+}
 
 -- the disk's faults where it wasn't called
 abbrev pub calm : Faults
@@ -40,7 +41,7 @@ run-once limits from mid es cs event turn run step =
     let one : Happening = record { event = event; faults = calm; turn = turn } in
     let more = run-append limits from mid turn.after es cs (one ∷ []) run (step, refl) in
     subst (λ e. IsRunWithRoom limits from (es ++ e) (cs ++ turn.choices) turn.after) (append-nil turn.entries)
-      (subst (λ c. IsRunWithRoom limits from (es ++ (turn.entries ++ [])) (cs ++ c) turn.after) (append-nil turn.choices) more)
+    (subst (λ c. IsRunWithRoom limits from (es ++ (turn.entries ++ [])) (cs ++ c) turn.after) (append-nil turn.choices) more)
 
 -- a call that came to one event
 pub comes-once : {D : Type 0} (old new : Seen D) (event : Event) (answer : Answer) (turn : Turn)
@@ -49,16 +50,17 @@ pub comes-once : {D : Type 0} (old new : Seen D) (event : Event) (answer : Answe
     → new.history.entries ≡ old.history.entries ++ turn.entries → new.history.choices ≡ old.history.choices ++ turn.choices
     → new.limits ≡ old.limits → new.disk ≡ old.disk → ComesTo old new event answer
 comes-once old new event answer turn step told after entries choices limits disk = record {
-    events = record { event = event; faults = calm; turn = turn } ∷ [];
-    happened = (step, after);
-    told = (refl, told, tt);
-    entries = entries ∙ ap (λ e. old.history.entries ++ e) (sym (append-nil turn.entries));
-    choices = choices ∙ ap (λ c. old.history.choices ++ c) (sym (append-nil turn.choices));
-    limits = limits;
-    disk = disk }
+  events = record { event = event; faults = calm; turn = turn } ∷ [];
+  happened = (step, after);
+  told = (refl, told, tt);
+  entries = entries ∙ ap (λ e. old.history.entries ++ e) (sym (append-nil turn.entries));
+  choices = choices ∙ ap (λ c. old.history.choices ++ c) (sym (append-nil turn.choices));
+  limits = limits;
+  disk = disk;
+}
 
 -- a call that changed nothing
 pub comes-unchanged : {D : Type 0} (old : Seen D) (event : Event) (answer : Answer) → (HasRoom old.limits old.state event → Step old.limits calm old.state event (machine.unchanged old.state answer)) → ComesTo old old event answer
 comes-unchanged old event answer step =
     comes-once old old event answer (machine.unchanged old.state answer) step refl (λ i. record old.state { entries = add-zero old.state.entries i })
-      (sym (append-nil old.history.entries)) (sym (append-nil old.history.choices)) refl refl
+    (sym (append-nil old.history.entries)) (sym (append-nil old.history.choices)) refl refl

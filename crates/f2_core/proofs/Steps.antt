@@ -41,7 +41,7 @@ barring-none : (tree : Rows) (n seat : ℕ) → barring_seat (state_of tree true
 barring-none tree n seat = rw (map.get-empty nat_cmp seat, entries-empty {X = Flight}) refl
 
 -- a choice by a test, and by what there is, at a known answer
-on_false : (b : Bool) (P Q : Type 0) → b ≡ false → Q → MatchBool b P Q
+pub on_false : (b : Bool) (P Q : Type 0) → b ≡ false → Q → MatchBool b P Q
 on_false true P Q is q = absurd (true≢false is)
 on_false false P Q is q = q
 
@@ -53,7 +53,7 @@ on_none : {X : Type 0} (o : Option X) (P : Type 0) (Q : X → Type 0) → o ≡ 
 on_none None P Q is p = p
 on_none (Some x) P Q is p = absurd (none-some x (sym is))
 
-on_some : {X : Type 0} (o : Option X) (P : Type 0) (Q : X → Type 0) (x : X) → o ≡ Some x → Q x → MatchOption o P Q
+pub on_some : {X : Type 0} (o : Option X) (P : Type 0) (Q : X → Type 0) (x : X) → o ≡ Some x → Q x → MatchOption o P Q
 on_some None P Q x is q = absurd (none-some x is)
 on_some (Some y) P Q x is q = subst Q (sym (ap (λ o. unwrap_or o y) is)) q
 
@@ -88,7 +88,7 @@ len-le-nodes tree =
     omega (arith, many, len, map.len-entries tree)
 
 -- where no space is refused, the nodes fit
-first-none : (o : Option Reply) (rest : List (Option Reply)) → first_refusal (o ∷ rest) ≡ None → o ≡ None
+pub first-none : (o : Option Reply) (rest : List (Option Reply)) → first_refusal (o ∷ rest) ≡ None → o ≡ None
 first-none None rest e = refl
 first-none (Some r) rest e = e
 
@@ -101,8 +101,8 @@ nodes_fit limits tree none =
     let small : nat_lt limits.nodes (nodes_of_tree tree) ≡ false = then_some-none _ _ (first-none _ _ none) in
     not_lt limits.nodes (nodes_of_tree tree) small
   where
-  not_lt : (m n : ℕ) → nat_lt m n ≡ false → n ≤ m
-  not_lt m n e = grind (arith, e)
+    not_lt : (m n : ℕ) → nat_lt m n ≡ false → n ≤ m
+    not_lt m n e = grind (arith, e)
 
 is_le : (m n : ℕ) → m ≤ n → nat_le m n ≡ true
 is_le m n le = grind (arith, le)
@@ -126,23 +126,24 @@ rows_fit limits tree path up nids grown led room =
     let fits = nodes_fit limits _ room in
     let many = len-le-nodes (effect tree (Create path) limits.nids) in
     let len : map.len (effect tree (Create path) limits.nids) ≡ map.len tree + 1 =
-        ap map.len is ∙ map.len-insert nat_cmp_total tree limits.nids _ ∙ ap (λ o. cond (is_some o) (map.len tree) (map.len tree + 1)) (absent limits tree limits.nids grown (omega (arith, nids, grown.fits))) in
+    ap map.len is ∙ map.len-insert nat_cmp_total tree limits.nids _ ∙ ap (λ o. cond (is_some o) (map.len tree) (map.len tree + 1)) (absent limits tree limits.nids grown (omega (arith, nids, grown.fits))) in
     omega (arith, fits, many, len)
 
 -- the number after the last one is free
 pub free_ino : (limits : Limits) (tree : Rows) (n : ℕ) → 3 * limits.nodes + 4 ≤ limits.nids → IsGrown limits tree → map.len tree + 1 ≤ limits.nodes
     → IsFreeIno limits (state_of tree true n) (map.len tree + 3)
 free_ino limits tree n nids grown fits = record {
-    above = omega (arith, grown.rooted);
-    below = omega (arith, nids, fits);
-    no_row = fresh-grown tree grown;
-    no_base_row = map.get-insert nat_cmp_total map.empty ROOT root_row (map.len tree + 3)
-        ∙ ap (λ b. cond b (Some root_row) (map.get (map.empty {R = nat_cmp}) (map.len tree + 3))) (unsigned_tied (map.len tree + 3) ROOT ∙ not_eq (map.len tree + 3) ROOT (omega (arith, grown.rooted)))
-        ∙ map.get-empty nat_cmp (map.len tree + 3);
-    not_logged = set.contains-empty nat_cmp (map.len tree + 3) }
+  above = omega (arith, grown.rooted);
+  below = omega (arith, nids, fits);
+  no_row = fresh-grown tree grown;
+  no_base_row = map.get-insert nat_cmp_total map.empty ROOT root_row (map.len tree + 3)
+      ∙ ap (λ b. cond b (Some root_row) (map.get (map.empty {R = nat_cmp}) (map.len tree + 3))) (unsigned_tied (map.len tree + 3) ROOT ∙ not_eq (map.len tree + 3) ROOT (omega (arith, grown.rooted)))
+      ∙ map.get-empty nat_cmp (map.len tree + 3);
+  not_logged = set.contains-empty nat_cmp (map.len tree + 3);
+}
   where
-  not_eq : (m n : ℕ) → n < m → (m == n) ≡ false
-  not_eq m n lt = grind (arith, lt)
+    not_eq : (m n : ℕ) → n < m → (m == n) ≡ false
+    not_eq m n lt = grind (arith, lt)
 
 module _ (limits : Limits) (faults : Faults) (tree : Rows) (n seat : ℕ) (path : List (List ℕ)) where
   pub step-spent : MOST_ENTRIES ≤ n → StepBegin limits faults (state_of tree true n) seat (Create path) (unchanged (state_of tree true n) (replied reply.Spent))
@@ -157,4 +158,4 @@ module _ (limits : Limits) (faults : Faults) (tree : Rows) (n seat : ℕ) (path 
       → StepBegin limits faults (state_of tree true n) seat (Create path) (did (state_of tree true n) seat (Create path) reply.Done (ino ∷ []) (called (state_of tree true n) (Create path) ino))
   step-made ino early none room free =
       on_false (nat_le MOST_ENTRIES n) _ _ (is_above _ _ early) (on_none (barring_seat (state_of tree true n) seat) _ _ (barring-none tree n seat) (on_none (refusal limits tree (Create path)) _ _ none
-        (on_none (space_refusal limits (effect tree (Create path) limits.nids)) _ _ room (inl (ino, free, refl)))))
+      (on_none (space_refusal limits (effect tree (Create path) limits.nids)) _ _ room (inl (ino, free, refl)))))

@@ -43,7 +43,7 @@ pub record IsCore (limits : Limits) (tree : Rows) (is_open : Bool) (history : Hi
   pub run : IsRunWithRoom limits (initial bare_tree []) history.entries history.choices (state_of tree is_open (length history.entries))
   pub nids : 3 * limits.nodes + 4 ≤ limits.nids
   pub grown : IsGrown limits tree
-  pub closed : is_open ≡ false → (tree ≡ bare_tree) × (history.entries ≡ [])
+  pub closed : is_open ≡ false → (tree ≡ bare_tree) × (history.entries ≡ []) × (history.spare ≡ 0)
   pub room : is_open ≡ true → length history.entries + history.spare ≡ HISTORY_ROOM
 
 -- a closed core on a disk, which knows nothing yet

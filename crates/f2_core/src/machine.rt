@@ -45,12 +45,10 @@ impl<D> Model for Core<D> {
 
     ghost Value = { Seen D };
 
-    ghost coded = {
-        let flights : Coded (map.FinMap nat_cmp Flight) = map.code coded_ℕ (Prim.hlevel codes) in
+    ghost coded = { let flights : Coded (map.FinMap nat_cmp Flight) = map.code coded_ℕ (Prim.hlevel codes) in
         let pairs : Coded Pairs = set.code (coded× coded_ℕ coded_ℕ) in
         let inos : Coded Inos = set.code coded_ℕ in
-        Prim.hlevel (codes, coded_tree.the_row.coded, coded_row.the_row.coded, flights, pairs, inos, D.code)
-    };
+        Prim.hlevel (codes, coded_tree.the_row.coded, coded_row.the_row.coded, flights, pairs, inos, D.code) };
 
     ghost view = { λ c. record { disk = c.disk; limits = c.limits; state = state_of c.tree c.is_open (length c.history.entries); history = c.history } };
 
@@ -120,8 +118,11 @@ impl<D: Disk> Core<D> {
         if self.history.len() >= MOST_ENTRIES {
             return Reply::Spent;
         }
-        match add_file(self.alloc, &mut self.tree, self.limits, &path) {
-            Ok(Ok(ino)) => {
+        let Ok(added) = add_file(self.alloc, &mut self.tree, self.limits, &path) else {
+            return Reply::Memory;
+        };
+        match added {
+            Ok(ino) => {
                 let entry = Entry::Did {
                     seat,
                     request: Request::Create { path },
@@ -130,7 +131,7 @@ impl<D: Disk> Core<D> {
                 self.history.add(entry, Some(ino));
                 Reply::Done
             }
-            Ok(Err(refusal)) => {
+            Err(refusal) => {
                 let entry = Entry::Did {
                     seat,
                     request: Request::Create { path },
@@ -139,7 +140,6 @@ impl<D: Disk> Core<D> {
                 self.history.add(entry, None);
                 refusal
             }
-            Err(_) => Reply::Memory,
         }
     }
 

@@ -1,9 +1,9 @@
 -- Laws of what calls of a disk do to what it holds.
-use Rattle.std.proofs.Common.{◌≡◌, ℕ, zero, suc, ◌<◌, List, [], ◌∷◌, length, map, replicate, set, All, Option, None, Some, refl, arith, ap, ◌∙◌, inr}
+use Rattle.std.proofs.Common.{◌≡◌, ℕ, zero, suc, ◌<◌, List, [], ◌∷◌, length, replicate, set, All, Option, None, Some, refl, arith, ap, ◌∙◌, inr}
 use Rattle.std.specs.List.{slice_index}
-use Rattle.std.proofs.lemmas.List.{length-map, length-replicate, map-set, get_or-replicate, get_or_past}
+use Rattle.std.proofs.lemmas.List.{length-map, length-replicate, map-set}
 use Rattle.std.proofs.lemmas.List.Elements.{All-map, All-cons, All-nil, All-weaker}
-use Rattle.f2_disk.specs.Contents.{Contents, IsBlock, IsWhole, IsWritten, IsWriteFailed, IsOneChange, WhereTold, alone, latest, last_of, flushed, zeros}
+use Rattle.f2_disk.specs.Contents.{Contents, IsBlock, IsWhole, IsWritten, WhereTold, alone, latest, last_of, flushed, zeros}
 
 -- a list of zeros has nothing else, also past its end
 zero_at : (n at : ℕ) → slice_index (replicate n 0) at ≡ 0
@@ -26,13 +26,13 @@ zeros_block = record { size = zeros_size; bytes = zeros_byte }
 -- blocks with one content each are whole
 pub whole_alone : (image : List (List ℕ)) → All IsBlock image → IsWhole (length image) (alone image)
 whole_alone image blocks =
-  let single = λ (content : List ℕ). content ∷ [] in
-  record {
-    size = length-map image single;
-    held = All-map (λ list. 0 < length list) single image (λ k d h. omega arith);
-    contents = All-map (All IsBlock) single image
-      (All-weaker IsBlock (λ content. All IsBlock (single content)) (λ x block. All-cons IsBlock x [] block (All-nil IsBlock)) image blocks)
-  }
+    let single = λ (content : List ℕ). content ∷ [] in
+    record {
+      size = length-map image single;
+      held = All-map (λ list. 0 < length list) single image (λ k d h. omega arith);
+      contents = All-map (All IsBlock) single image
+          (All-weaker IsBlock (λ content. All IsBlock (single content)) (λ x block. All-cons IsBlock x [] block (All-nil IsBlock)) image blocks);
+    }
 
 -- their newest contents are those
 pub latest_alone : (image : List (List ℕ)) → latest (alone image) ≡ image

@@ -3,7 +3,6 @@ use Rattle.std.specs.Prelude.{ℕ, Bool, ◌||◌, ◌==◌, ◌-◌, ◌++◌, 
 use Rattle.f2_disk.specs.Contents.{Contents, list_at}
 use Rattle.f2_disk.specs.Meter.{Meter}
 use Rattle.f2_disk.specs.Plans.{Plans, left_of, is_due, after_call, answered}
-use Rattle.f2_disk.specs.declared.bench.CallKind.{CallKind}
 use Rattle.f2_disk.specs.declared.bench.CallKind.TheVariants.{Write}
 
 -- what it holds, for how many writes it has room, and what is planned
@@ -19,7 +18,7 @@ meter_of bench = record {
   faults = bench.plans.faults;
   left = left_of bench.plans;
   stopped = is_some bench.plans.stop;
-  spare = bench.spare
+  spare = bench.spare;
 }
 
 -- a write of it fails where its plan or the stop is due, or where there is no room
@@ -31,5 +30,5 @@ abbrev pub after_write : ℕ → List ℕ → BenchState → BenchState
 after_write at content bench = record {
   lists = if bench.spare == 0 then bench.lists else slice_set bench.lists at (list_at bench.lists at ++ content ∷ []);
   spare = bench.spare - 1;
-  plans = answered (write_fails bench) (after_call Write bench.plans)
+  plans = answered (write_fails bench) (after_call Write bench.plans);
 }

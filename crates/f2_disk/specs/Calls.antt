@@ -18,7 +18,7 @@ abbrev pub after_call : Bool → Calls → Calls
 after_call failed calls = record {
   made = one_more calls.made;
   fails = calls.fails;
-  faults = if failed then one_more calls.faults else calls.faults
+  faults = if failed then one_more calls.faults else calls.faults;
 }
 
 -- a source in memory: the bytes that are left, and its calls

@@ -1,5 +1,5 @@
 -- What a bench was asked to fail, and which of its calls that makes fail.
-use Rattle.std.specs.Prelude.{ℕ, ◌+◌, ◌-◌, ◌==◌, min, Bool, true, false, ◌||◌, is_some, Option, Some, None, option_map, if◌then◌else◌}
+use Rattle.std.specs.Prelude.{ℕ, ◌+◌, ◌-◌, ◌==◌, min, Bool, false, ◌||◌, is_some, Option, Some, None, option_map, if◌then◌else◌}
 use Rattle.f2_disk.specs.Faults.{one_more}
 use Rattle.f2_disk.specs.declared.bench.CallKind.{CallKind}
 use Rattle.f2_disk.specs.declared.bench.CallKind.TheVariants.{Read, Write, Flush}
@@ -66,4 +66,4 @@ sooner n (Some calls) = Some (min calls n)
 -- how many failures are planned
 abbrev pub left_of : Plans → ℕ
 left_of plans =
-  (if is_some plans.read then 1 else 0) + (if is_some plans.write then 1 else 0) + (if is_some plans.flush then 1 else 0)
+    (if is_some plans.read then 1 else 0) + (if is_some plans.write then 1 else 0) + (if is_some plans.flush then 1 else 0)

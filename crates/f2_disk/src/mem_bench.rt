@@ -60,7 +60,7 @@ impl Disk for MemBench {
         ensures content { OnOk result (into.new ≡ last_of (list_at self.old.lists at)) }
         ensures fails { is_err result ≡ is_due Read self.old.plans }
         ensures after { self.new ≡ record self.old {
-            plans = answered (is_due Read self.old.plans) (after_call Read self.old.plans)
+          plans = answered (is_due Read self.old.plans) (after_call Read self.old.plans);
         } }
 
         ensures cause { OnErr result (HasFailed (meter_of self.old) (meter_of self.new)) }

@@ -37,11 +37,11 @@ impl Disk for MemDisk {
     ghost contents = { λ d. Some (alone d) };
 
     ghost meter = { λ d. record {
-        blocks = length d;
-        faults = 0;
-        left = 0;
-        stopped = false;
-        spare = 2 ^ 64 - 1
+      blocks = length d;
+      faults = 0;
+      left = 0;
+      stopped = false;
+      spare = 2 ^ 64 - 1;
     } };
 
     fn blocks(&self) -> u32 {

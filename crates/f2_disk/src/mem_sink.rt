@@ -29,9 +29,9 @@ impl MemSink {
     /// counted from 1.
     pub fn new(alloc: Global, room: usize, fails: &[u32]) -> Result<Self, AllocError>
         ensures { IfOk result (λ sink. sink ≡ record {
-            bytes = [];
-            room = room;
-            calls = record { made = 0; fails = fails.now; faults = 0 }
+          bytes = [];
+          room = room;
+          calls = record { made = 0; fails = fails.now; faults = 0 };
         }) }
     {
         Ok(MemSink {

@@ -26,8 +26,8 @@ impl MemSource {
     /// A source of these bytes. Its reads with the numbers in `fails` fail, counted from 1.
     pub fn new(alloc: Global, bytes: &[u8], fails: &[u32]) -> Result<Self, AllocError>
         ensures { IfOk result (λ source. source ≡ record {
-            left = bytes.now;
-            calls = record { made = 0; fails = fails.now; faults = 0 }
+          left = bytes.now;
+          calls = record { made = 0; fails = fails.now; faults = 0 };
         }) }
     {
         Ok(MemSource {

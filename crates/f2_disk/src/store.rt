@@ -104,8 +104,8 @@ impl Store {
         requires { at < length self.old.lists }
         ensures room { IsTrue result ↔ (0 < self.old.spare) }
         ensures put { IsTrue result → self.new ≡ record {
-            lists = slice_set self.old.lists at (list_at self.old.lists at ++ from.now ∷ []);
-            spare = self.old.spare - 1
+          lists = slice_set self.old.lists at (list_at self.old.lists at ++ from.now ∷ []);
+          spare = self.old.spare - 1;
         } }
         ensures full { self.old.spare ≡ 0 → self.new ≡ self.old }
     {

@@ -1,6 +1,6 @@
 -- Numbers in a block of bytes. Every number on disk stands with its lowest byte first, as the __le16, __le32
 -- and __le64 of f2fs_fs.h do.
-use Rattle.std.specs.Prelude.{ℕ, ◌+◌, ◌*◌, List, [], ◌∷◌, ◌++◌, map, length, take, drop, replicate}
+use Rattle.std.specs.Prelude.{◌≡◌, ◌^◌, ◌<◌, ◌≤◌, ◌⊎◌, ℕ, ◌+◌, ◌*◌, List, [], ◌∷◌, ◌++◌, map, length, take, drop, replicate}
 use Rattle.std.specs.List.{range_with_len}
 use Rattle.byteorder.specs.Endian.{little_number, little_bytes}
 
@@ -36,3 +36,15 @@ with_fields block (field ∷ fields) = with_fields (with_bytes block field.0 fie
 -- so many bytes, all 0
 unfoldable pub zeros : ℕ → List ℕ
 zeros n = replicate n 0
+
+-- a number that was written is read
+abbrev pub WrittenNumberReadsBack : Type 0
+WrittenNumberReadsBack =
+    (n : ℕ) (block : List ℕ) (at number : ℕ) → at ≤ length block → number < 256 ^ n
+    → number_at n (with_bytes block at (number_bytes n number)) at ≡ number
+
+-- a number that ends before the bytes written, or begins past them, stays
+abbrev pub NumberElsewhereStays : Type 0
+NumberElsewhereStays =
+    (n : ℕ) (block : List ℕ) (at : ℕ) (bytes : List ℕ) (other : ℕ) → at + length bytes ≤ length block
+    → (other + n ≤ at) ⊎ (at + length bytes ≤ other) → number_at n (with_bytes block at bytes) other ≡ number_at n block other

@@ -13,9 +13,13 @@ inode_pages = 923
 abbrev pub node_slots : ℕ
 node_slots = 1018
 
--- how many pages a file may have: those of the inode and of 2 + 2 * 1018 + 1018 * 1018 direct nodes (max_file_blocks)
+-- how many direct nodes a file may have: two of the inode, those of two indirect nodes and of the double indirect one
+abbrev pub direct_limit : ℕ
+direct_limit = 2 + 2 * node_slots + node_slots * node_slots
+
+-- how many pages a file may have: those of the inode and of its direct nodes (max_file_blocks of fs/f2fs/super.c)
 abbrev pub page_limit : ℕ
-page_limit = 1057053439
+page_limit = inode_pages + direct_limit * node_slots
 
 -- the first of the two indirect nodes right below the inode (NODE_IND1_BLOCK); its direct nodes follow it
 abbrev pub first_indirect : ℕ
@@ -98,6 +102,9 @@ nodes_over pages = set.from_list (0 ∷ flat_map nodes_of_page pages)
 -- how many nodes such a file has
 abbrev pub node_count : List ℕ → ℕ
 node_count pages = set.len (nodes_over pages)
+
+page_limit-is : page_limit ≡ 1057053439
+page_limit-is = refl
 
 -- the first and the last page of each part have these direct nodes
 direct_of-parts :

@@ -38,6 +38,14 @@ impl<E> Items<E> {
         Items { items }
     }
 
+    /// The members as a `Vec`, which takes no memory.
+    pub fn into_vec(self) -> Vec<E>
+        ensures { result.items ≡ self }
+    {
+        let Items { items } = self;
+        items
+    }
+
     /// The members in order.
     pub fn as_slice(&self) -> &[E]
         ensures { result.now ≡ self.now }

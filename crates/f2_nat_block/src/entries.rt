@@ -12,7 +12,7 @@ const ENTRY_BYTES: usize = 9;
 const ENTRIES_A_BLOCK: u32 = 455;
 
 /// Whose a node is and where it stands (`struct f2fs_nat_entry` of f2fs_fs.h, without its version).
-#[derive(Clone, Copy, Debug, PartialEq, Eq)]
+#[derive(Clone, Copy, Debug, Default, PartialEq, Eq)]
 pub struct NatEntry {
     /// The number of the inode of the file that has the node.
     pub ino: u32,

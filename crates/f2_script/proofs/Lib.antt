@@ -5,3 +5,4 @@ pub mod PathLemmas
 pub mod LineKinds
 pub mod Reading
 pub mod ScriptLaws
+pub mod TreeLines

@@ -5,3 +5,4 @@ pub mod Grammar
 pub mod Cuts
 pub mod Replies
 pub mod Faults
+pub mod Trees

@@ -1,6 +1,6 @@
 //! What is read and printed, by examples.
-use crate::{Grammar, ScriptFault, line_text, parse, reply_text};
-use f2_model::{Bytes, Name, Names, Reason, Reply, Space};
+use crate::{Grammar, ScriptFault, line_text, parse, reply_text, tree_text};
+use f2_model::{Bytes, Kind, Name, Names, Pages, Reason, Reply, Row, Space, Tree};
 use std::alloc::{AllocError, Global};
 
 fn script(alloc: Global, bytes: &[u8]) -> Result<Vec<u8>, ScriptFault> {
@@ -66,5 +66,45 @@ fn prints_replies(rt: HostRuntime) -> Result<(), AllocError> {
         limit: 9,
     };
     assert!(rt; prints(alloc, full, b"nospace node 10 9")?);
+    Ok(())
+}
+
+fn row(alloc: Global, ino: u32, kind: Kind, parent: u32, name: &[u8]) -> Result<Row, AllocError> {
+    Ok(Row {
+        ino,
+        kind,
+        parent,
+        name: Name::from_slice(alloc, name)?,
+        size: 0,
+        pages: Pages::new(alloc),
+    })
+}
+
+fn two_pages(alloc: Global) -> Result<Pages, AllocError> {
+    let mut pages = Pages::new(alloc);
+    let mut page = [0u8; 4096];
+    page[1] = 3;
+    pages.put(1, &page)?;
+    page[0] = 1;
+    pages.put(0, &page)?;
+    Ok(pages)
+}
+
+#[test]
+fn prints_trees(rt: HostRuntime) -> Result<(), AllocError> {
+    let alloc = rt.alloc();
+    let mut tree = Tree::new(alloc);
+    tree.put(row(alloc, 3, Kind::Directory, 3, b"")?)?;
+    let text = tree_text(alloc, &tree)?;
+    assert!(rt; text.as_slice() == b"/ dir\n".as_slice());
+    let mut file = row(alloc, 4, Kind::Regular, 5, b"50%")?;
+    file.size = 4098;
+    file.pages = two_pages(alloc)?;
+    tree.put(file)?;
+    tree.put(row(alloc, 5, Kind::Directory, 3, b"b")?)?;
+    tree.put(row(alloc, 6, Kind::Regular, 3, b"a")?)?;
+    let text = tree_text(alloc, &tree)?;
+    let want = b"/ dir\n/a file 0 0 0\n/b dir\n/b/50%25 file 4098 2 12301\n";
+    assert!(rt; text.as_slice() == want.as_slice());
     Ok(())
 }

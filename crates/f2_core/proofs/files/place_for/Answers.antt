@@ -12,6 +12,6 @@ returns c =
     let good : is_good_path path ≡ true = grind (arith, c.is_good.ensures, c.if-not-is_good.false) in
     let led : walk_parent tree path ≡ Ok c.in_ok-directory.field-0.now = subst (λ p. walk_parent tree p ≡ Ok c.in_ok-directory.field-0.now) c.as_slice.ensures c.in_ok-directory.ensures in
     let free : is_ok (walk tree path) ≡ false =
-        subst (λ p. is_ok (walk tree p) ≡ false) c.as_slice-2.ensures
-          (sym (is_ok-told (λ row. row.now) c.walk.result (walk tree c.as_slice-2.result.now) c.walk.ensures) ∙ sym c.is_ok.ensures.value ∙ c.if-is_ok.false) in
+    subst (λ p. is_ok (walk tree p) ≡ false) c.as_slice-2.ensures
+    (sym (is_ok-told (λ row. row.now) c.walk.result (walk tree c.as_slice-2.result.now) c.walk.ensures) ∙ sym c.is_ok.ensures.value ∙ c.if-is_ok.false) in
     λ limits. (refusal-none limits tree path c.in_ok-directory.field-0.now good led free, (c.in_ok-directory.field-0.now, led, refl))

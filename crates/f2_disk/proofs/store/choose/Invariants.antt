@@ -4,7 +4,7 @@ use Rattle.f2_disk.proofs.store.choose.Given as goal
 
 abbrev pub invariant-loop-next : goal.invariant-loop-next
 invariant-loop-next l =
-  (done : ℕ) × IsChosen l.pick l.initial.newest l.initial.older done l.next l.rest l.newest l.older
+    (done : ℕ) × IsChosen l.pick l.initial.newest l.initial.older done l.next l.rest l.newest l.older
 
 abbrev pub decreases-loop-next : goal.decreases-loop-next
 decreases-loop-next l = length l.initial.older - l.next

@@ -3,4 +3,4 @@ use Rattle.f2_disk.proofs.store.fill.Given as goal
 
 abbrev pub invariant-loop : goal.invariant-loop
 invariant-loop l =
-  (vec_len l.room ≡ l.counter) × (vec_len l.fn.room ≤ vec_len l.room) × (vec_len l.room ≤ max (vec_len l.fn.room) l.wanted)
+    (vec_len l.room ≡ l.counter) × (vec_len l.fn.room ≤ vec_len l.room) × (vec_len l.room ≤ max (vec_len l.fn.room) l.wanted)

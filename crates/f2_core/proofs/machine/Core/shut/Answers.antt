@@ -1,12 +1,5 @@
-use Rattle.std.proofs.Common.{rules, ◌≡◌, ◌+◌, ◌*◌, ◌<◌, ◌≤◌, [], MatchResult, MatchOption, Option, Some, None, ℕ, ◌-◌, length, ◌/◌, ◌%◌, Bool, true, false, nat_eq, nat_lt, List, ◌∷◌, ◌++◌, slice_index_or, slice_set, bit_and, bit_or, Fits, w8, w32, w64, Bor, MutBor}
-use Rattle.std.specs.Option.{option_copied}
-use Rattle.f2_model.specs.State.{initial}
-use Rattle.f2_model.specs.Step as machine
-use Rattle.f2_model.specs.declared.requests.Request.TheVariants.{Create}
-use Rattle.f2_core.specs.Events.{IsServed, ComesTo, event_of, answer_of}
-use Rattle.f2_core.specs.Seen.{IsShut, live_where_up}
+use Rattle.f2_core.proofs.Opened.{shut-IsCore}
 use Rattle.f2_core.proofs.machine.Core.shut.Goals as goal
 
--- src/machine.rt:71:27
 pub invariant_of-result : goal.invariant_of-result
-invariant_of-result g c = ?
+invariant_of-result g c = shut-IsCore c.args.limits c.in-Some.tree c.new.result c.requires.nodes c.requires.nids c.in-Some.ensures c.new.ensures

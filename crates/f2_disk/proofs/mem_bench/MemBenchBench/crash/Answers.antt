@@ -1,5 +1,4 @@
-use Rattle.std.proofs.Common.{◌≡◌, length, ap, ◌∙◌, refl, sym, rules, arith}
-use Rattle.std.proofs.lemmas.Grind.{common_steps}
+use Rattle.std.proofs.Common.{ap, ◌∙◌, refl, arith}
 use Rattle.f2_disk.specs.Bench.{BenchState}
 use Rattle.f2_disk.specs.Contents.{Contents, IsImage}
 use Rattle.f2_disk.specs.Pick.{crash_image, crashed}
@@ -9,16 +8,16 @@ use Rattle.f2_disk.proofs.mem_bench.MemBenchBench.crash.Goals as goal
 
 pub returns-clause-image : goal.returns-clause-image
 returns-clause-image c =
-  let lists : Contents = c.self.inside.store.lists in
-  let image : IsImage lists (crash_image c.args.pick lists) = crash_is_image c.args.pick lists c.crash.ensures.whole.held in
-  (ap (λ (s : Stored). s.lists) c.crash.ensures.crashed ∙ ap (λ (b : BenchState). crashed c.args.pick b.lists) c.self.view_is, rw (← c.self.view_is) image)
+    let lists : Contents = c.self.inside.store.lists in
+    let image : IsImage lists (crash_image c.args.pick lists) = crash_is_image c.args.pick lists c.crash.ensures.whole.held in
+    (ap (λ (s : Stored). s.lists) c.crash.ensures.crashed ∙ ap (λ (b : BenchState). crashed c.args.pick b.lists) c.self.view_is, rw (← c.self.view_is) image)
 
 pub returns-clause-calm : goal.returns-clause-calm
 returns-clause-calm c =
-  rw (c.crash.ensures.crashed, c.forget.ensures, ← c.self.view_is) (record {
-    size = length-crashed c.args.pick c.self.inside.store.lists;
-    same_faults = refl;
-    none_left = refl;
-    not_stopped = refl;
-    room = omega arith
-  })
+    rw (c.crash.ensures.crashed, c.forget.ensures, ← c.self.view_is) (record {
+      size = length-crashed c.args.pick c.self.inside.store.lists;
+      same_faults = refl;
+      none_left = refl;
+      not_stopped = refl;
+      room = omega arith;
+    })

@@ -1,5 +1,5 @@
 use Rattle.std.proofs.Common.{Some, ap, sym}
-use Rattle.f2_disk.specs.Contents.{Contents, alone}
+use Rattle.f2_disk.specs.Contents.{alone}
 use Rattle.f2_disk.proofs.ContentsLaws.{latest_alone}
 use Rattle.f2_disk.proofs.mem_disk.MemDiskDisk.flush.Goals as goal
 

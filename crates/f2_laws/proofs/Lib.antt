@@ -1,0 +1,17 @@
+pub mod Maps
+pub mod RolledRows
+pub mod RefusedCalls
+pub mod Survivors
+pub mod SameTurns
+pub mod Missing
+pub mod FreeInos
+pub mod Values
+pub mod Walks
+pub mod Places
+pub mod Passed
+pub mod Contents
+pub mod Names
+pub mod Calls
+pub mod Moves
+pub mod NewRows
+pub mod Outcomes

@@ -1,0 +1,4 @@
+pub mod Maps
+pub mod Logs
+pub mod Steps
+pub mod Passes

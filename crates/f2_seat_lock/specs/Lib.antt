@@ -1,0 +1,6 @@
+pub mod Map
+pub mod Known
+pub mod Rule
+pub mod Plays
+pub mod Turn
+pub mod Tally

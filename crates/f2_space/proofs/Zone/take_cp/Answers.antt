@@ -1,0 +1,11 @@
+use Rattle.std.proofs.Common.{◌+◌, ◌-◌, ◌*◌, ◌<◌, ◌≤◌, arith}
+use Rattle.f2_space.proofs.Laws.{IsShared-take}
+use Rattle.f2_space.proofs.Zone.take_cp.Goals as goal
+
+pub invariant_of-self : goal.invariant_of-self
+invariant_of-self c =
+    let is = c.self.invariant in
+    let least = c.take_least-at.ensures.least in
+    let room = rw (← c.self.view_is) at c.requires in
+    rw (c.take_least-at.ensures.used, c.take_least-at.ensures.other)
+    (is.0, is.1, is.2, IsShared-take _ _ _ _ _ _ is.3 (omega (arith, least.in_range.0), omega (arith, least.in_range.1)) least.missing (omega arith) is.3.log_third is.3.drawn_third (omega (arith, room)) is.3.kept_thirds is.3.log_waits)
