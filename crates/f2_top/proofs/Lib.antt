@@ -1,0 +1,4 @@
+pub mod PutLemmas
+pub mod PlayLemmas
+pub mod MountLemmas
+pub mod ReplayLemmas

@@ -1,0 +1,183 @@
+-- From the lines of a script to what its bytes tell.
+use Rattle.std.proofs.Common.{◌≡◌, ℕ, Bool, true, false, List, [], ◌∷◌, ◌++◌, refl, sym, ap, ◌∙◌, subst, append_assoc, append-nil, inl, inr, Result, Ok, Err}
+use Rattle.std.specs.Prelude.{◌⊎◌, Option}
+use Rattle.std.specs.List.{AllByRecursion}
+use Rattle.f2_model.specs.declared.requests.Request.{Request}
+use Rattle.f2_model.specs.declared.requests.Request.TheVariants as request
+use Rattle.f2_script.specs.declared.script.Line.{Line}
+use Rattle.f2_script.specs.declared.script.Line.TheVariants.{Mkfs, Call, Tree}
+use Rattle.f2_script.specs.declared.script.Grammar.TheVariants as grammar
+use Rattle.f2_script.specs.declared.script.ScriptFault.{ScriptFault}
+use Rattle.f2_script.specs.declared.script.ScriptFault.TheVariants as fault
+use Rattle.f2_script.specs.Grammar.{IsFirstFault, AreLines, IsRequest, IsTooLong, Spells, lines_of}
+use Rattle.f2_top.specs.declared.status.Status.{Status}
+use Rattle.f2_top.specs.declared.status.Status.TheVariants as status
+use Rattle.f2_top.specs.Endings.{IsSilent, last_line}
+use Rattle.f2_top.specs.Plays.{PlaysScript}
+use Rattle.f2_top.specs.Reads.{TakesScript, TakesSome}
+use Rattle.f2_top.specs.Replay.{IsReadAs, PlaysFirst, Prints, Tells, IsCutOff, Writes, IsUnread, Replays, read, unread, Finishes, said_whole, broken_off, IsReplayed, IsRefused, said, cut_off}
+use Rattle.f2_top.specs.Runs as runs
+use Rattle.f2_top.specs.Runs.{IsPlayable, IsPlayableScript, EndsScript, WritesFirst, Ran}
+use Rattle.std.specs.Io.KnownBytes.{Appends}
+use Rattle.std.proofs.KnownBytes.{Appends-nil, Appends-trans}
+use Rattle.f2_disk.specs.Faults.{Rose}
+use Rattle.f2_top.specs.Streams.{IsCutAfter}
+
+-- the calls of the grammar can be played
+playable-request : (seat : ℕ) (r : Request) → IsRequest r → IsPlayable (Call seat r)
+playable-request seat (request.Create path) h = tt
+playable-request seat (request.Mkdir path) h = absurd h
+playable-request seat (request.Write path pieces) h = absurd h
+playable-request seat (request.Truncate path size) h = absurd h
+playable-request seat (request.Unlink path) h = absurd h
+playable-request seat (request.Rmdir path) h = absurd h
+playable-request seat (request.Rename from to) h = absurd h
+playable-request seat (request.Read path off len) h = absurd h
+playable-request seat (request.List path) h = absurd h
+playable-request seat (request.Fsync path) h = absurd h
+playable-request seat request.Sync h = absurd h
+
+-- the lines of the grammar after the first can be played
+playable-lines : (texts : List (List ℕ)) (lines : List Line) → AreLines grammar.Replay true texts lines → AllByRecursion IsPlayable lines
+playable-lines [] [] h = tt
+playable-lines [] (line ∷ lines) h = absurd h
+playable-lines (text ∷ texts) [] h = absurd h
+playable-lines (text ∷ texts) (Mkfs blocks nat ∷ lines) h = let e : true ≡ false = h.0.1 in absurd (cc)
+playable-lines (text ∷ texts) (Call seat r ∷ lines) h = (playable-request seat r h.0.0.0.2, playable-lines texts lines h.1)
+playable-lines (text ∷ texts) (Tree ∷ lines) h = (tt, playable-lines texts lines h.1)
+
+playable-script : (texts : List (List ℕ)) (lines : List Line) → AreLines grammar.Replay false texts lines → IsPlayableScript lines
+playable-script [] [] h = tt
+playable-script [] (line ∷ lines) h = absurd h
+playable-script (text ∷ texts) [] h = absurd h
+playable-script (text ∷ texts) (Mkfs blocks nat ∷ lines) h = playable-lines texts lines h.1
+playable-script (text ∷ texts) (Call seat r ∷ lines) h = let e : false ≡ true = h.0.1 in absurd (cc)
+playable-script (text ∷ texts) (Tree ∷ lines) h = let e : false ≡ true = h.0.1 in absurd (cc)
+
+pub Spells-playable : (bytes : List ℕ) (lines : List Line) → Spells grammar.Replay bytes lines → IsPlayableScript lines
+Spells-playable bytes lines h = playable-script (lines_of bytes) lines h
+
+-- what went out of the lines that bytes are
+pub WritesFirst-lines : (bytes : List ℕ) (lines : List Line) (s : Status) (out : List ℕ)
+    → ¬ (IsTooLong bytes) → Spells grammar.Replay bytes lines → EndsScript lines s out → WritesFirst bytes s out
+WritesFirst-lines bytes lines status.Done out fits spelled ends = record { fits = fits; lines = lines; spelled = spelled; holds = ends }
+WritesFirst-lines bytes lines status.Memory out fits spelled ends =
+    inr record { fits = fits; lines = lines; spelled = spelled; holds = record { count = ends.count; played = ends.holds } }
+WritesFirst-lines bytes lines status.SinkFault out fits spelled ends = record {
+    status = status.Memory;
+    text = ends.text;
+    told = record {
+      text = ends.text;
+      printed = inr record { fits = fits; lines = lines; spelled = spelled; holds = record { count = ends.first.count; played = ends.first.holds } };
+      whole = sym (append-nil ends.text) };
+    cut = ends.cut }
+WritesFirst-lines bytes lines status.Usage out fits spelled ends = absurd ends
+WritesFirst-lines bytes lines status.TooLong out fits spelled ends = absurd ends
+WritesFirst-lines bytes lines (status.Script line) out fits spelled ends = absurd ends
+WritesFirst-lines bytes lines status.SourceFault out fits spelled ends = absurd ends
+WritesFirst-lines bytes lines (status.Geometry limit value) out fits spelled ends =
+    (record { fits = fits; lines = lines; spelled = spelled; holds = ends.0 }, ends.1)
+
+-- the last line after what went out before it
+Writes-told : (bytes : List ℕ) (s : Status) (out : List ℕ) → WritesFirst bytes s out → Writes bytes s (out ++ last_line s)
+Writes-told bytes status.SinkFault out h = subst (IsCutOff bytes) (sym (append-nil out)) h
+Writes-told bytes status.Done out h = record { text = out; printed = h; whole = refl }
+Writes-told bytes status.Usage out h = absurd h
+Writes-told bytes status.TooLong out h = record { text = out; printed = h; whole = refl }
+Writes-told bytes (status.Script line) out h = record { text = out; printed = h; whole = refl }
+Writes-told bytes status.SourceFault out h = absurd h
+Writes-told bytes (status.Geometry limit value) out h = record { text = out; printed = h; whole = refl }
+Writes-told bytes status.Memory out h = record { text = out; printed = h; whole = refl }
+
+unread-silent : (s : Status) → IsUnread s → last_line s ≡ []
+unread-silent status.Done h = absurd h
+unread-silent status.Usage h = absurd h
+unread-silent status.TooLong h = absurd h
+unread-silent (status.Script line) h = absurd h
+unread-silent status.SourceFault h = refl
+unread-silent status.SinkFault h = absurd h
+unread-silent (status.Geometry limit value) h = absurd h
+unread-silent status.Memory h = refl
+
+pub Ran-told : (old new : Option (List ℕ)) (s : Status) (out : List ℕ) → Ran old new s out → Replays old new s (out ++ last_line s)
+Ran-told old new s out (runs.read bytes taken wrote) = read bytes taken (Writes-told bytes s out wrote)
+Ran-told old new s out (runs.unread taken none empty) = unread taken none (ap (λ t. t ++ last_line s) empty ∙ unread-silent s none)
+
+-- the sink failed within the last line
+cut-last : (bytes : List ℕ) (s : Status) (out gone : List ℕ) → Prints bytes s out → IsCutAfter gone (last_line s) → IsCutOff bytes (out ++ gone)
+cut-last bytes s out gone printed cut = record {
+    status = s;
+    text = out ++ last_line s;
+    told = record { text = out; printed = printed; whole = refl };
+    cut = record { rest = cut.rest; whole = ap (λ t. out ++ t) cut.whole ∙ sym (append_assoc out gone cut.rest) } }
+
+Writes-cut : (bytes : List ℕ) (s : Status) (out gone : List ℕ) → ¬ (IsSilent s) → WritesFirst bytes s out → IsCutAfter gone (last_line s) → IsCutOff bytes (out ++ gone)
+Writes-cut bytes status.SinkFault out gone loud h cut = absurd (loud tt)
+Writes-cut bytes status.Done out gone loud h cut = absurd (loud tt)
+Writes-cut bytes status.Usage out gone loud h cut = absurd h
+Writes-cut bytes status.TooLong out gone loud h cut = cut-last bytes status.TooLong out gone h cut
+Writes-cut bytes (status.Script line) out gone loud h cut = cut-last bytes (status.Script line) out gone h cut
+Writes-cut bytes status.SourceFault out gone loud h cut = absurd h
+Writes-cut bytes (status.Geometry limit value) out gone loud h cut = cut-last bytes (status.Geometry limit value) out gone h cut
+Writes-cut bytes status.Memory out gone loud h cut = absurd (loud tt)
+
+unread-loud : (s : Status) → IsUnread s → IsSilent s
+unread-loud status.Done h = absurd h
+unread-loud status.Usage h = absurd h
+unread-loud status.TooLong h = absurd h
+unread-loud (status.Script line) h = absurd h
+unread-loud status.SourceFault h = tt
+unread-loud status.SinkFault h = absurd h
+unread-loud (status.Geometry limit value) h = absurd h
+unread-loud status.Memory h = tt
+
+pub Ran-cut : (old new : Option (List ℕ)) (s : Status) (out gone : List ℕ) → ¬ (IsSilent s) → Ran old new s out → IsCutAfter gone (last_line s) → Replays old new status.SinkFault (out ++ gone)
+Ran-cut old new s out gone loud (runs.read bytes taken wrote) cut = read bytes taken (Writes-cut bytes s out gone loud wrote cut)
+Ran-cut old new s out gone loud (runs.unread taken none empty) cut = absurd (loud (unread-loud s none))
+
+-- a replay, and the last line of its status
+pub IsReplayed-of : (old new then mid now : Option (List ℕ)) (s ending : Status)
+    → (out : List ℕ) × Appends then mid out × Ran old new s out → Finishes mid now s ending → IsReplayed old new then now ending
+IsReplayed-of old new then mid now s ending (out, written, ran) (said_whole same line) = record {
+    out = out ++ last_line s;
+    written = Appends-trans then mid now out (last_line s) written line;
+    replayed = subst (λ e. Replays old new e (out ++ last_line s)) (sym same) (Ran-told old new s out ran) }
+IsReplayed-of old new then mid now s ending (out, written, ran) (broken_off failed loud some) = record {
+    out = out ++ some.gone;
+    written = Appends-trans then mid now out some.gone written some.written;
+    replayed = subst (λ e. Replays old new e (out ++ some.gone)) (sym failed) (Ran-cut old new s out some.gone loud ran some.cut) }
+
+-- words that are no command
+pub IsRefused-of : (then now : Option (List ℕ)) (ending : Status) → Finishes then now status.Usage ending → IsRefused then now ending
+IsRefused-of then now ending (said_whole same line) = said same line
+IsRefused-of then now ending (broken_off failed loud some) = cut_off failed some
+
+-- a fault of the source is blamed on no last line
+pub Finishes-source : (then now : Option (List ℕ)) (s : Status) → Finishes then now s status.SourceFault → s ≡ status.SourceFault
+Finishes-source then now s (said_whole same line) = sym same
+Finishes-source then now s (broken_off failed loud some) = absurd (cc)
+
+-- a script that was read is not too long
+pub ok-fits : (bytes : List ℕ) (lines : List Line) (r : Result (List Line) ScriptFault) → r ≡ Ok lines → (IsTooLong bytes → r ≡ Err fault.TooLong) → ¬ (IsTooLong bytes)
+ok-fits bytes lines r is f long = let e : r ≡ Err fault.TooLong = f long in cc
+
+pub line-fits : (bytes : List ℕ) (n : ℕ) (r : Result (List Line) ScriptFault) → r ≡ Err (fault.Line n) → (IsTooLong bytes → r ≡ Err fault.TooLong) → ¬ (IsTooLong bytes)
+line-fits bytes n r is f long = let e : r ≡ Err fault.TooLong = f long in cc
+
+-- a script whose lines were run
+pub Ran-lines : (old new then now : Option (List ℕ)) (bytes : List ℕ) (lines : List Line) (s : Status)
+    → TakesScript old new bytes → ¬ (IsTooLong bytes) → Spells grammar.Replay bytes lines
+    → (out : List ℕ) × Appends then now out × EndsScript lines s out → (out : List ℕ) × Appends then now out × Ran old new s out
+Ran-lines old new then now bytes lines s taken fits spelled ended =
+    (ended.0, ended.1, runs.read bytes taken (WritesFirst-lines bytes lines s ended.0 fits spelled ended.2))
+
+-- a script of which nothing was run
+pub Ran-none : (old new then : Option (List ℕ)) (bytes : List ℕ) (s : Status) → TakesScript old new bytes → WritesFirst bytes s []
+    → (out : List ℕ) × Appends then then out × Ran old new s out
+Ran-none old new then bytes s taken first = ([], Appends-nil then, runs.read bytes taken first)
+
+-- a script with a line outside the grammar
+pub Ran-line : (old new then : Option (List ℕ)) (bytes : List ℕ) (n m : ℕ) → TakesScript old new bytes → ¬ (IsTooLong bytes) → IsFirstFault grammar.Replay bytes n → n ≡ m
+    → (out : List ℕ) × Appends then then out × Ran old new (status.Script m) out
+Ran-line old new then bytes n m taken fits first same =
+    Ran-none old new then bytes (status.Script m) taken (fits, subst (λ k. IsFirstFault grammar.Replay bytes k) same first, refl)

@@ -1,0 +1,94 @@
+//! The top calls.
+ghost use Rattle.std.specs.Prelude.{◌≡◌, ◌≤◌, ◌⊎◌, ◌↔◌, IsTrue, map, string_bytes};
+ghost use Rattle.f2_disk.specs.Faults.{Rose};
+ghost use Rattle.f2_top.specs.Endings.{IsSilent};
+ghost use Rattle.f2_top.specs.Words.{IsReplay};
+ghost use Rattle.f2_top.specs.Replay.{Finishes, IsReplayed, IsRefused};
+
+use crate::output::put_last_line;
+use crate::replay::replay;
+use crate::status::Status;
+use f2_disk::{Bench, Disk, Sink, Source};
+use f2_model::Meet;
+use std::alloc::Global;
+use std::sync::Wait;
+use std::thread::Threads;
+
+fn is_replay(words: &[String]) -> bool
+    ensures { IsTrue result ↔ IsReplay (map string_bytes words.now) }
+{
+    match words {
+        [word] => word.as_str() == "replay",
+        _ => false,
+    }
+}
+
+/// Writes the last line of a status, and gives the status with which the run ends then.
+fn finish<K: Sink>(sink: &mut K, status: Status) -> Status
+    ensures finished { Finishes (K.written sink.old) (K.written sink.new) status result }
+    ensures kept { IsSilent status → sink.new ≡ sink.old }
+    ensures later { K.faults sink.old ≤ K.faults sink.new }
+    ensures cause { result ≡ Status.SinkFault → (status ≡ Status.SinkFault) ⊎ Rose (K.faults sink.old) (K.faults sink.new) }
+{
+    match put_last_line(sink, status) {
+        Ok(()) => status,
+        Err(_) => Status::SinkFault,
+    }
+}
+
+/// Runs a command that needs no threads.
+pub fn run_plain<S: Source, K: Sink, B: Bench, D: Disk>(
+    alloc: Global,
+    words: &[String],
+    source: &mut S,
+    sink: &mut K,
+    bench: B,
+    disk: D,
+) -> (Status, B, D)
+    // What `replay` wrote follows from the bytes that it read.
+    ensures replayed { IsReplay (map string_bytes words.now)
+        → IsReplayed (S.remaining source.old) (S.remaining source.new) (K.written sink.old) (K.written sink.new) result.0 }
+
+    // Other words are no command: nothing is read, and only that is said.
+    ensures usage { ¬ (IsReplay (map string_bytes words.now)) → IsRefused (K.written sink.old) (K.written sink.new) result.0 }
+    ensures unread { ¬ (IsReplay (map string_bytes words.now)) → source.new ≡ source.old }
+
+    // A fault is answered only where the count of the object that it is blamed on rose.
+    ensures read { result.0 ≡ Status.SourceFault → Rose (S.faults source.old) (S.faults source.new) }
+    ensures silent { result.0 ≡ Status.SourceFault → sink.new ≡ sink.old }
+    ensures wrote { result.0 ≡ Status.SinkFault → Rose (K.faults sink.old) (K.faults sink.new) }
+
+    ensures disk { result.2 ≡ disk }
+{
+    if !is_replay(words) {
+        return (finish(sink, Status::Usage), bench, disk);
+    }
+    let (status, bench) = replay(alloc, source, sink, bench);
+    (finish(sink, status), bench, disk)
+}
+
+/// Runs a command. It waits for no other thread until races are a command.
+pub fn run<R: Threads + Wait + Sync, S: Source, K: Sink, B: Bench, D: Disk + Send, M: Meet + Sync>(
+    _rt: &R,
+    alloc: Global,
+    words: &[String],
+    source: &mut S,
+    sink: &mut K,
+    bench: B,
+    disk: D,
+    _meet: &M,
+) -> (Status, B, D)
+    ensures replayed { IsReplay (map string_bytes words.now)
+        → IsReplayed (S.remaining source.old) (S.remaining source.new) (K.written sink.old) (K.written sink.new) result.0 }
+
+    ensures usage { ¬ (IsReplay (map string_bytes words.now)) → IsRefused (K.written sink.old) (K.written sink.new) result.0 }
+    ensures unread { ¬ (IsReplay (map string_bytes words.now)) → source.new ≡ source.old }
+
+    ensures read { result.0 ≡ Status.SourceFault → Rose (S.faults source.old) (S.faults source.new) }
+    ensures silent { result.0 ≡ Status.SourceFault → sink.new ≡ sink.old }
+    ensures wrote { result.0 ≡ Status.SinkFault → Rose (K.faults sink.old) (K.faults sink.new) }
+
+    ensures disk { result.2 ≡ disk }
+{
+    run_plain(alloc, words, source, sink, bench, disk)
+}

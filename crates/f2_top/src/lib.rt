@@ -1,0 +1,20 @@
+//! The commands of `f2n`: from the words, the bytes of a script and a disk to what is printed and how the run ended.
+//!
+//! [`run`] and [`run_plain`] are the top of the program. Their contract: the words decide whether a command is run at
+//! all; what a `replay` wrote follows from the bytes that it read, line by line, by the machine of `f2_model`; and a
+//! fault of the source or the sink is answered only where that object's count of faults rose.
+//!
+//! `specs/Plays.antt` says what the lines of a script print and the events that they make, `specs/Replay.antt` what
+//! `replay` prints by its status, `specs/Endings.antt` has the statuses' numbers and last lines, `specs/Words.antt`
+//! the words of the commands.
+#![tactic(auto)]
+
+mod commands;
+mod input;
+mod output;
+mod player;
+mod replay;
+mod status;
+
+pub use commands::{run, run_plain};
+pub use status::Status;

@@ -1,0 +1,73 @@
+//! Writing texts to a sink.
+ghost use Rattle.std.specs.Prelude.{◌≡◌, ◌∷◌, ◌++◌, [], decimal, IsOk};
+ghost use Rattle.f2_disk.specs.Faults.{HasCause};
+ghost use Rattle.f2_top.specs.Streams.{Puts};
+ghost use Rattle.f2_top.specs.Endings.{IsSilent, last_line, numbered_line, limit_head as head_of_limit};
+
+use crate::status::Status;
+use f2_disk::{Failed, Sink};
+use f2_layout::Limit;
+use itoa::Buffer;
+
+/// Writes a text as a whole.
+pub(crate) fn put<K: Sink>(sink: &mut K, text: &[u8]) -> Result<(), Failed>
+    ensures bytes { Puts (K.written sink.old) (K.written sink.new) result text.now }
+    ensures cause { HasCause (K.faults sink.old) (K.faults sink.new) result }
+{
+    let mut left = text;
+    while !left.is_empty() {
+        let taken = match sink.write(left) {
+            Ok(taken) => taken,
+            Err(failed) => return Err(failed),
+        };
+        left = left.split_at(taken).1;
+    }
+    Ok(())
+}
+
+/// Writes a number and the end of its line.
+fn put_number<K: Sink>(sink: &mut K, number: u32) -> Result<(), Failed>
+    ensures bytes { Puts (K.written sink.old) (K.written sink.new) result (decimal number ++ 10 ∷ []) }
+    ensures cause { HasCause (K.faults sink.old) (K.faults sink.new) result }
+{
+    put(sink, Buffer::new().format(number).as_bytes())?;
+    put(sink, b"\n")
+}
+
+/// Writes a line that ends with a number.
+fn put_numbered<K: Sink>(sink: &mut K, head: &[u8], number: u32) -> Result<(), Failed>
+    ensures bytes { Puts (K.written sink.old) (K.written sink.new) result (numbered_line head.now number) }
+    ensures cause { HasCause (K.faults sink.old) (K.faults sink.new) result }
+{
+    put(sink, head)?;
+    put_number(sink, number)
+}
+
+/// What stands before the number in the line of a broken limit.
+fn limit_head(limit: Limit) -> &'static [u8]
+    ensures { result.now ≡ head_of_limit limit }
+{
+    match limit {
+        Limit::Blocks => b"f2n: geometry blocks ",
+        Limit::Nat => b"f2n: geometry nat ",
+        Limit::Zones => b"f2n: geometry zones ",
+        Limit::Nids => b"f2n: geometry nids ",
+        Limit::Device => b"f2n: geometry device ",
+    }
+}
+
+/// Writes the last line of a status, where it has one.
+pub(crate) fn put_last_line<K: Sink>(sink: &mut K, status: Status) -> Result<(), Failed>
+    ensures bytes { Puts (K.written sink.old) (K.written sink.new) result (last_line status) }
+    ensures cause { HasCause (K.faults sink.old) (K.faults sink.new) result }
+    ensures silent { IsSilent status → IsOk result }
+    ensures kept { IsSilent status → sink.new ≡ sink.old }
+{
+    match status {
+        Status::Usage => put(sink, b"f2n: usage\n"),
+        Status::TooLong => put(sink, b"f2n: toolong\n"),
+        Status::Script { line } => put_numbered(sink, b"f2n: script line ", line),
+        Status::Geometry { limit, value } => put_numbered(sink, limit_head(limit), value),
+        Status::Done | Status::SourceFault | Status::SinkFault | Status::Memory => Ok(()),
+    }
+}
