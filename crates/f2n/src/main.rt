@@ -1,0 +1,57 @@
+//! The program `f2n`: runs a command of `f2_top` on standard input and output, and ends with the number of its status.
+#![tactic(auto)]
+
+use f2_disk::{MemBench, MemDisk, StdSink, StdSource};
+use f2_model::Meet;
+use f2_top::{Status, run};
+use std::alloc::AllocError;
+use std::process::ExitCode;
+use std::rt::Env;
+use std::sync::Wait;
+use std::thread::Threads;
+use std::{env, io};
+
+/// Workers that don't wait for each other.
+struct NoMeeting;
+
+impl Meet for NoMeeting {
+    fn before(&self, _seat: u8, _call: u32) {}
+
+    fn after(&self, _seat: u8, _call: u32) {}
+}
+
+/// The words after the program's name. Arguments that aren't text are no words, and so no command.
+fn words<R: Env + AllocGlobal>(rt: &R) -> Result<Vec<String>, AllocError> {
+    match env::args(rt) {
+        Ok(args) => args.skip(1).collect(rt.alloc()),
+        Err(error) if error.kind() == io::ErrorKind::OutOfMemory => Err(AllocError),
+        Err(_) => Ok(Vec::new(rt.alloc())),
+    }
+}
+
+/// Runs the command that the arguments name.
+fn run_command<R: Env + AllocGlobal + Input + Print + Threads + Wait + Sync>(
+    rt: &R,
+) -> Result<Status, AllocError> {
+    let words = words(rt)?;
+    let mut source = StdSource::new(rt.reader());
+    let mut sink = StdSink::new(io::writer(rt));
+    let bench = MemBench::new(rt.alloc())?;
+    let disk = MemDisk::new(rt.alloc(), 0)?;
+    let (status, _, _) = run(
+        rt,
+        rt.alloc(),
+        words.as_slice(),
+        &mut source,
+        &mut sink,
+        bench,
+        disk,
+        &NoMeeting,
+    );
+    Ok(status)
+}
+
+fn main(rt: HostRuntime) -> ExitCode {
+    let status = run_command(&rt).unwrap_or(Status::Memory);
+    ExitCode::from(status.number())
+}
