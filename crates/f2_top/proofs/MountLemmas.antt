@@ -63,14 +63,16 @@ pub found-none : (limits : Limits) (rows : ℕ) (events : List Happening) (to : 
 found-none limits rows [] to happened told = absurd told
 found-none limits rows (one ∷ rest) to happened told =
     let step : StepMount one.faults (initial bare_tree []) one.turn =
-      subst (λ e. HasRoom limits (initial bare_tree []) e → Step limits one.faults (initial bare_tree []) e one.turn) told.0 happened.0 tt in
+    subst (λ e. HasRoom limits (initial bare_tree []) e → Step limits one.faults (initial bare_tree []) e one.turn) told.0 happened.0 tt in
     (told.0, told.1 ∙ ap Found (mount-finds-none one.faults one.turn rows step told.1), told.2)
 
 -- lines that are played on an image
 pub PlaysScript-mkfs : {D : Type 0} (extent : Extent) (core : Seen D) (lines : List Line) (text : List ℕ)
     → geometry_of extent ≡ Ok extent → IsMounted extent core → PlaysFrom core.limits core.state lines text
     → PlaysScript (Mkfs extent.blocks extent.nat ∷ lines) (mkfs_text extent ++ text)
-PlaysScript-mkfs extent core lines text sizes mounted (to, played) = (sizes, record {
+PlaysScript-mkfs extent core lines text sizes mounted (to, played) = (
+  sizes,
+  record {
     mounted = mounted.mounted;
     start = core.state;
     parts = played.parts;
@@ -78,7 +80,9 @@ PlaysScript-mkfs extent core lines text sizes mounted (to, played) = (sizes, rec
     found = mounted.found;
     happened = mounted.happened;
     played = subst (λ l. PlaysLines l core.state lines played.parts to) mounted.limits played.played;
-    printed = ap (λ t. mkfs_text extent ++ t) played.printed })
+    printed = ap (λ t. mkfs_text extent ++ t) played.printed;
+  },
+)
 
 -- the text of the `mkfs` line before what the lines after it print
 pub Ends-mkfs : {D : Type 0} (extent : Extent) (core : Seen D) (lines : List Line) (s : Status) (out : List ℕ)
@@ -88,9 +92,10 @@ Ends-mkfs extent core lines status.Done out sizes mounted ends = PlaysScript-mkf
 Ends-mkfs extent core lines status.Memory out sizes mounted ends =
     record { count = suc ends.count; holds = PlaysScript-mkfs extent core (take ends.count lines) out sizes mounted ends.holds }
 Ends-mkfs extent core lines status.SinkFault out sizes mounted ends = record {
-    text = mkfs_text extent ++ ends.text;
-    first = record { count = suc ends.first.count; holds = PlaysScript-mkfs extent core (take ends.first.count lines) ends.text sizes mounted ends.first.holds };
-    cut = record { rest = ends.cut.rest; whole = ap (λ t. mkfs_text extent ++ t) ends.cut.whole ∙ sym (append_assoc (mkfs_text extent) out ends.cut.rest) } }
+  text = mkfs_text extent ++ ends.text;
+  first = record { count = suc ends.first.count; holds = PlaysScript-mkfs extent core (take ends.first.count lines) ends.text sizes mounted ends.first.holds };
+  cut = record { rest = ends.cut.rest; whole = ap (λ t. mkfs_text extent ++ t) ends.cut.whole ∙ sym (append_assoc (mkfs_text extent) out ends.cut.rest) };
+}
 Ends-mkfs extent core lines status.Usage out sizes mounted ends = absurd ends
 Ends-mkfs extent core lines status.TooLong out sizes mounted ends = absurd ends
 Ends-mkfs extent core lines (status.Script line) out sizes mounted ends = absurd ends
@@ -113,29 +118,36 @@ pub IsMounted-of : {D : Type 0} (extent : Extent) (core new : Seen D) (rows : �
     → core.limits ≡ limits_of extent → core.state ≡ initial bare_tree [] → ComesTo core new Mount (Found rows) → IsMounted extent new
 IsMounted-of extent core new rows l s comes =
     let happened : HappenedWithRoom (limits_of extent) (initial bare_tree []) comes.events new.state =
-      subst (λ st. HappenedWithRoom (limits_of extent) st comes.events new.state) s
-        (subst (λ k. HappenedWithRoom k core.state comes.events new.state) l comes.happened) in
+    subst (λ st. HappenedWithRoom (limits_of extent) st comes.events new.state) s
+    (subst (λ k. HappenedWithRoom k core.state comes.events new.state) l comes.happened) in
     record {
       mounted = comes.events;
       found = found-none (limits_of extent) rows comes.events new.state happened comes.told;
       happened = happened;
-      limits = comes.limits ∙ l }
+      limits = comes.limits ∙ l;
+    }
 
 -- the sink failed within the text of the `mkfs` line
 pub mkfs-fails : {D : Type 0} (extent : Extent) (core : Seen D) (lines : List Line) (old new : Option (List ℕ)) (text : List ℕ)
     → geometry_of extent ≡ Ok extent → IsMounted extent core → text ≡ mkfs_text extent → PutsSome old new text
     → (out : List ℕ) × Appends old new out × SomeCut PlaysScript (Mkfs extent.blocks extent.nat ∷ lines) out
-mkfs-fails extent core lines old new text sizes mounted e some = (some.gone, some.written, record {
+mkfs-fails extent core lines old new text sizes mounted e some = (
+  some.gone,
+  some.written,
+  record {
     text = mkfs_text extent ++ [];
     first = record { count = suc zero; holds = PlaysScript-mkfs extent core [] [] sizes mounted (core.state, PlaysTo-none core.limits core.state) };
-    cut = record { rest = some.cut.rest; whole = append-nil (mkfs_text extent) ∙ sym e ∙ some.cut.whole } })
+    cut = record { rest = some.cut.rest; whole = append-nil (mkfs_text extent) ∙ sym e ∙ some.cut.whole };
+  },
+)
 
 -- the `mkfs` line was printed, and then the lines after it were run
 pub mkfs-goes : {D : Type 0} (extent : Extent) (core : Seen D) (lines : List Line) (s : Status) (old mid new : Option (List ℕ)) (text : List ℕ)
     → geometry_of extent ≡ Ok extent → IsMounted extent core → text ≡ mkfs_text extent → Appends old mid text
     → (out : List ℕ) × Appends mid new out × Ends (PlaysFrom core.limits core.state) lines s out
     → (out : List ℕ) × Appends old new out × Ends PlaysScript (Mkfs extent.blocks extent.nat ∷ lines) s out
-mkfs-goes extent core lines s old mid new text sizes mounted e written ended =
-    (mkfs_text extent ++ ended.0,
-      Appends-trans old mid new (mkfs_text extent) ended.0 (subst (λ t. Appends old mid t) e written) ended.1,
-      Ends-mkfs extent core lines s ended.0 sizes mounted ended.2)
+mkfs-goes extent core lines s old mid new text sizes mounted e written ended = (
+  mkfs_text extent ++ ended.0,
+  Appends-trans old mid new (mkfs_text extent) ended.0 (subst (λ t. Appends old mid t) e written) ended.1,
+  Ends-mkfs extent core lines s ended.0 sizes mounted ended.2,
+)

@@ -8,16 +8,18 @@ use Rattle.f2_top.specs.Streams.{IsCutAfter, PutsSome, Puts}
 -- a text that was cut is cut also where more stands behind it
 pub PutsSome-more : (old new : Option (List ℕ)) (text more : List ℕ) → PutsSome old new text → PutsSome old new (text ++ more)
 PutsSome-more old new text more some = record {
-    gone = some.gone;
-    cut = record { rest = some.cut.rest ++ more; whole = ap (λ t. t ++ more) some.cut.whole ∙ append_assoc some.gone some.cut.rest more };
-    written = some.written }
+  gone = some.gone;
+  cut = record { rest = some.cut.rest ++ more; whole = ap (λ t. t ++ more) some.cut.whole ∙ append_assoc some.gone some.cut.rest more };
+  written = some.written;
+}
 
 -- a text that was cut after another went out
 pub PutsSome-after : (old mid new : Option (List ℕ)) (first text : List ℕ) → Appends old mid first → PutsSome mid new text → PutsSome old new (first ++ text)
 PutsSome-after old mid new first text before some = record {
-    gone = first ++ some.gone;
-    cut = record { rest = some.cut.rest; whole = ap (λ t. first ++ t) some.cut.whole ∙ sym (append_assoc first some.gone some.cut.rest) };
-    written = Appends-trans old mid new first some.gone before some.written }
+  gone = first ++ some.gone;
+  cut = record { rest = some.cut.rest; whole = ap (λ t. first ++ t) some.cut.whole ∙ sym (append_assoc first some.gone some.cut.rest) };
+  written = Appends-trans old mid new first some.gone before some.written;
+}
 
 -- a text that goes out, or is cut, after another went out
 pub Puts-after : {T E : Type 0} (old mid new : Option (List ℕ)) (first text : List ℕ) (result : Result T E) → Appends old mid first → Puts mid new result text → Puts old new result (first ++ text)
@@ -38,18 +40,20 @@ more-gone text gone left n whole = whole ∙ ap (λ t. gone ++ t) (sym (take-app
 
 pub PutSoFar-step : (old mid new : Option (List ℕ)) (text left : List ℕ) (n : ℕ) → PutSoFar old mid text left → Appends mid new (take n left) → PutSoFar old new text (drop n left)
 PutSoFar-step old mid new text left n so_far more = record {
-    gone = so_far.gone ++ take n left;
-    whole = more-gone text so_far.gone left n so_far.whole;
-    written = Appends-trans old mid new so_far.gone (take n left) so_far.written more }
+  gone = so_far.gone ++ take n left;
+  whole = more-gone text so_far.gone left n so_far.whole;
+  written = Appends-trans old mid new so_far.gone (take n left) so_far.written more;
+}
 
 pub PutSoFar-next : (old mid new : Option (List ℕ)) (text left next : List ℕ) (n : ℕ) → next ≡ drop n left → PutSoFar old mid text left → Appends mid new (take n left) → PutSoFar old new text next
 PutSoFar-next old mid new text left next n e so_far more = subst (PutSoFar old new text) (sym e) (PutSoFar-step old mid new text left n so_far more)
 
 pub PutSoFar-cut : (old mid new : Option (List ℕ)) (text left : List ℕ) (n : ℕ) → PutSoFar old mid text left → Appends mid new (take n left) → PutsSome old new text
 PutSoFar-cut old mid new text left n so_far more = record {
-    gone = so_far.gone ++ take n left;
-    cut = record { rest = drop n left; whole = more-gone text so_far.gone left n so_far.whole };
-    written = Appends-trans old mid new so_far.gone (take n left) so_far.written more }
+  gone = so_far.gone ++ take n left;
+  cut = record { rest = drop n left; whole = more-gone text so_far.gone left n so_far.whole };
+  written = Appends-trans old mid new so_far.gone (take n left) so_far.written more;
+}
 
 pub PutSoFar-end : (old now : Option (List ℕ)) (text left : List ℕ) → left ≡ [] → PutSoFar old now text left → Appends old now text
 PutSoFar-end old now text left none so_far =

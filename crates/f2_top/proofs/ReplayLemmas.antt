@@ -64,13 +64,15 @@ WritesFirst-lines bytes lines status.Done out fits spelled ends = record { fits 
 WritesFirst-lines bytes lines status.Memory out fits spelled ends =
     inr record { fits = fits; lines = lines; spelled = spelled; holds = record { count = ends.count; played = ends.holds } }
 WritesFirst-lines bytes lines status.SinkFault out fits spelled ends = record {
-    status = status.Memory;
+  status = status.Memory;
+  text = ends.text;
+  told = record {
     text = ends.text;
-    told = record {
-      text = ends.text;
-      printed = inr record { fits = fits; lines = lines; spelled = spelled; holds = record { count = ends.first.count; played = ends.first.holds } };
-      whole = sym (append-nil ends.text) };
-    cut = ends.cut }
+    printed = inr record { fits = fits; lines = lines; spelled = spelled; holds = record { count = ends.first.count; played = ends.first.holds } };
+    whole = sym (append-nil ends.text);
+  };
+  cut = ends.cut;
+}
 WritesFirst-lines bytes lines status.Usage out fits spelled ends = absurd ends
 WritesFirst-lines bytes lines status.TooLong out fits spelled ends = absurd ends
 WritesFirst-lines bytes lines (status.Script line) out fits spelled ends = absurd ends
@@ -106,10 +108,11 @@ Ran-told old new s out (runs.unread taken none empty) = unread taken none (ap (�
 -- the sink failed within the last line
 cut-last : (bytes : List ℕ) (s : Status) (out gone : List ℕ) → Prints bytes s out → IsCutAfter gone (last_line s) → IsCutOff bytes (out ++ gone)
 cut-last bytes s out gone printed cut = record {
-    status = s;
-    text = out ++ last_line s;
-    told = record { text = out; printed = printed; whole = refl };
-    cut = record { rest = cut.rest; whole = ap (λ t. out ++ t) cut.whole ∙ sym (append_assoc out gone cut.rest) } }
+  status = s;
+  text = out ++ last_line s;
+  told = record { text = out; printed = printed; whole = refl };
+  cut = record { rest = cut.rest; whole = ap (λ t. out ++ t) cut.whole ∙ sym (append_assoc out gone cut.rest) };
+}
 
 Writes-cut : (bytes : List ℕ) (s : Status) (out gone : List ℕ) → ¬ (IsSilent s) → WritesFirst bytes s out → IsCutAfter gone (last_line s) → IsCutOff bytes (out ++ gone)
 Writes-cut bytes status.SinkFault out gone loud h cut = absurd (loud tt)
@@ -139,13 +142,15 @@ Ran-cut old new s out gone loud (runs.unread taken none empty) cut = absurd (lou
 pub IsReplayed-of : (old new then mid now : Option (List ℕ)) (s ending : Status)
     → (out : List ℕ) × Appends then mid out × Ran old new s out → Finishes mid now s ending → IsReplayed old new then now ending
 IsReplayed-of old new then mid now s ending (out, written, ran) (said_whole same line) = record {
-    out = out ++ last_line s;
-    written = Appends-trans then mid now out (last_line s) written line;
-    replayed = subst (λ e. Replays old new e (out ++ last_line s)) (sym same) (Ran-told old new s out ran) }
+  out = out ++ last_line s;
+  written = Appends-trans then mid now out (last_line s) written line;
+  replayed = subst (λ e. Replays old new e (out ++ last_line s)) (sym same) (Ran-told old new s out ran);
+}
 IsReplayed-of old new then mid now s ending (out, written, ran) (broken_off failed loud some) = record {
-    out = out ++ some.gone;
-    written = Appends-trans then mid now out some.gone written some.written;
-    replayed = subst (λ e. Replays old new e (out ++ some.gone)) (sym failed) (Ran-cut old new s out some.gone loud ran some.cut) }
+  out = out ++ some.gone;
+  written = Appends-trans then mid now out some.gone written some.written;
+  replayed = subst (λ e. Replays old new e (out ++ some.gone)) (sym failed) (Ran-cut old new s out some.gone loud ran some.cut);
+}
 
 -- words that are no command
 pub IsRefused-of : (then now : Option (List ℕ)) (ending : Status) → Finishes then now status.Usage ending → IsRefused then now ending

@@ -48,7 +48,11 @@ fn scripts(rt: HostRuntime) -> Result<(), AllocError> {
     };
     let rows: [(&[u8], Status, &[u8]); 5] = [
         (b"", Status::Done, b""),
-        (b"mkfs 128 1\ntree\n", Status::Done, b"ok mkfs 9 30\n/ dir\n"),
+        (
+            b"mkfs 128 1\ntree\n",
+            Status::Done,
+            b"ok mkfs 9 30\n/ dir\n",
+        ),
         (
             b"mkfs 128 1\ncall 1 create /a\ntree",
             Status::Done,
@@ -73,7 +77,10 @@ fn words_and_lengths(rt: HostRuntime) -> Result<(), AllocError> {
     let long = vec![in alloc; b'a'; 1_048_577]?;
     let one = [String::from_str(alloc, "replay")?];
     assert!(rt; prints(alloc, &one, &long, Status::TooLong, b"f2n: toolong\n")?);
-    let two = [String::from_str(alloc, "replay")?, String::from_str(alloc, "x")?];
+    let two = [
+        String::from_str(alloc, "replay")?,
+        String::from_str(alloc, "x")?,
+    ];
     assert!(rt; prints(alloc, &two, b"", Status::Usage, b"f2n: usage\n")?);
     assert!(rt; prints(alloc, &[], b"", Status::Usage, b"f2n: usage\n")?);
     Ok(())

@@ -11,5 +11,5 @@ one-item f (y ∷ z ∷ zs) x n e = absurd (omega (arith, n))
 pub returns-in-len1 : goal.returns-in-len1
 returns-in-len1 c =
     let whole : map string_bytes c.args.words.now ≡ string_bytes c.word-item.result ∷ [] =
-      one-item string_bytes c.args.words.now c.word-item.result (omega arith) c.word-item.is in
+    one-item string_bytes c.args.words.now c.word-item.result (omega arith) c.word-item.is in
     rw whole (first_of (search rules, grind (arith, common_steps)))

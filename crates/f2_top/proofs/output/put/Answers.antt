@@ -9,5 +9,6 @@ returns-in-Err-clause-bytes g c =
 
 pub loop-left-preserved : goal.loop-left-preserved
 loop-left-preserved g c = record {
-    so_far = PutSoFar-next _ _ _ _ _ _ _ c.split_at.ensures.back c.loop-left.invariant.so_far c.in-Ok.ensures.bytes;
-    later = omega (arith, c.loop-left.invariant.later, c.in-Ok.ensures.cause.later) }
+  so_far = PutSoFar-next _ _ _ _ _ _ _ c.split_at.ensures.back c.loop-left.invariant.so_far c.in-Ok.ensures.bytes;
+  later = omega (arith, c.loop-left.invariant.later, c.in-Ok.ensures.cause.later);
+}

@@ -8,12 +8,13 @@ use Rattle.f2_top.proofs.player.play_lines.Goals as goal
 
 pub loop-line-init : goal.loop-line-init
 loop-line-init g c = record {
-    text = [];
-    written = Appends-nil (g.K.Sink.written c.args.sink.now);
-    progress = Progress-start c.args.core.limits c.args.core.state _;
-    limits = refl;
-    playable = c.requires;
-    later = omega arith }
+  text = [];
+  written = Appends-nil (g.K.Sink.written c.args.sink.now);
+  progress = Progress-start c.args.core.limits c.args.core.state _;
+  limits = refl;
+  playable = c.requires;
+  later = omega arith;
+}
 
 pub returns-in_default-play_line-clause-ends : goal.returns-in_default-play_line-clause-ends
 returns-in_default-play_line-clause-ends g c =
@@ -24,8 +25,8 @@ pub returns-then-is_err-clause-ends : goal.returns-then-is_err-clause-ends
 returns-then-is_err-clause-ends g c =
     let i = c.loop-line.invariant in
     Progress-fails _ _ _ _ _ _ _ _ _ _ _ _ _ _ c.in-Some.ensures.items i.limits i.written i.progress c.in-Ok.ensures.played
-      (subst (λ (t : List ℕ). PutsSome (g.K.Sink.written c.loop-line.sink) (g.K.Sink.written c.put.new.sink) t) c.as_slice.ensures.value
-        (Puts-err _ _ _ _ (sym c.is_err.ensures.value ∙ c.if-is_err.true) c.put.ensures.bytes))
+    (subst (λ (t : List ℕ). PutsSome (g.K.Sink.written c.loop-line.sink) (g.K.Sink.written c.put.new.sink) t) c.as_slice.ensures.value
+    (Puts-err _ _ _ _ (sym c.is_err.ensures.value ∙ c.if-is_err.true) c.put.ensures.bytes))
 
 pub loop-line-preserved : goal.loop-line-preserved
 loop-line-preserved g c =
@@ -33,12 +34,13 @@ loop-line-preserved g c =
     record {
       text = i.text ++ c.in-Ok.text.items;
       written = Appends-trans _ _ _ _ _ i.written
-        (subst (λ (t : List ℕ). Appends (g.K.Sink.written c.loop-line.sink) (g.K.Sink.written c.put.new.sink) t) c.as_slice.ensures.value
+          (subst (λ (t : List ℕ). Appends (g.K.Sink.written c.loop-line.sink) (g.K.Sink.written c.put.new.sink) t) c.as_slice.ensures.value
           (Puts-ok _ _ _ _ (sym c.is_err.ensures.value ∙ c.if-is_err.false) c.put.ensures.bytes));
       progress = Progress-step _ _ _ _ _ _ _ _ _ _ _ c.in-Some.ensures.items i.limits i.progress c.in-Ok.ensures.played;
       limits = c.play_line.ensures.limits ∙ i.limits;
       playable = All-tail _ _ _ _ c.in-Some.ensures.items i.playable;
-      later = omega (arith, i.later, c.put.ensures.cause.later) }
+      later = omega (arith, i.later, c.put.ensures.cause.later);
+    }
 
 pub returns-clause-ends : goal.returns-clause-ends
 returns-clause-ends g c =

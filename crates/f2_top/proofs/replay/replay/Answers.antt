@@ -20,8 +20,8 @@ pub returns-in-Err-Line-clause-ran : goal.returns-in-Err-Line-clause-ran
 returns-in-Err-Line-clause-ran g c =
     let taken = subst (λ (b : List ℕ). TakesScript (g.S.Source.remaining c.args.source.now) (g.S.Source.remaining c.read_script.new.source) b) (sym c.as_slice.ensures.value) c.in-Ok.ensures.ok in
     Ran-line _ _ _ _ _ _ taken
-      (line-fits c.as_slice.result.now c.in-Err-Line.line _ (ap Err c.in-Err-Line.field-0-is) c.in-Err-Line.ensures.too_long.1)
-      (c.in-Err-Line.ensures.line c.in-Err-Line.line (ap Err c.in-Err-Line.field-0-is)) (sym c.in-Err-Line.line-is)
+    (line-fits c.as_slice.result.now c.in-Err-Line.line _ (ap Err c.in-Err-Line.field-0-is) c.in-Err-Line.ensures.too_long.1)
+    (c.in-Err-Line.ensures.line c.in-Err-Line.line (ap Err c.in-Err-Line.field-0-is)) (sym c.in-Err-Line.line-is)
 
 pub returns-clause-ran : goal.returns-clause-ran
 returns-clause-ran g c =
