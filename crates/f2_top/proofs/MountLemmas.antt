@@ -1,10 +1,9 @@
 -- What a mount of a fresh image comes to, and scripts that begin with `mkfs`.
-use Rattle.std.proofs.Common.{◌≡◌, ℕ, zero, suc, Bool, true, false, List, [], ◌∷◌, ◌++◌, refl, sym, ap, ◌∙◌, subst, append_assoc, append-nil, length, take, Result, Ok, Err, inl, inr, arith}
-use Rattle.std.specs.Prelude.{◌⊎◌, if◌then◌else◌, Option}
-use Rattle.f2_format.specs.Geometry.{Extent, breaks_blocks, breaks_nat, breaks_zones, breaks_nids, node_third, nid_limit}
-use Rattle.f2_layout.specs.Refusal.{geometry_of, broken}
+use Rattle.std.proofs.Common.{◌≡◌, ℕ, zero, suc, Bool, true, false, List, [], ◌∷◌, ◌++◌, sym, ap, ◌∙◌, subst, append_assoc, append-nil, length, take, Result, Ok, Err, inl, inr, arith}
+use Rattle.std.specs.Prelude.{if◌then◌else◌, Option}
+use Rattle.f2_format.specs.Geometry.{Extent, breaks_blocks, breaks_nat, breaks_zones, breaks_nids}
+use Rattle.f2_layout.specs.Refusal.{geometry_of}
 use Rattle.f2_layout.specs.declared.geometry.BadGeometry.{BadGeometry}
-use Rattle.f2_layout.specs.declared.geometry.Limit.TheVariants.{Blocks, Nat, Zones, Nids}
 use Rattle.std.proofs.lemmas.List.{length-take}
 use Rattle.f2_model.specs.declared.bounds.Limits.{Limits}
 use Rattle.f2_model.specs.Run.{Happening}
@@ -14,15 +13,15 @@ use Rattle.std.proofs.KnownBytes.{Appends-trans}
 use Rattle.f2_top.proofs.PlayLemmas.{PlaysTo-none}
 use Rattle.f2_core.specs.Room.{HasRoom, HappenedWithRoom}
 use Rattle.f2_model.specs.State.{State, Mark, initial}
-use Rattle.f2_model.specs.Step.{Faults, Turn, Answer, Found, NotMounted, ReadFailed, WriteFailed, BadImage, NoMemory, Mount, Step, StepMount}
+use Rattle.f2_model.specs.Step.{Faults, Turn, Found, NotMounted, ReadFailed, WriteFailed, BadImage, NoMemory, Mount, Step, StepMount}
 use Rattle.f2_core.specs.Seen.{Seen, bare_tree}
 use Rattle.f2_script.specs.declared.script.Line.{Line}
 use Rattle.f2_script.specs.declared.script.Line.TheVariants.{Mkfs}
 use Rattle.f2_top.specs.declared.status.Status.{Status}
 use Rattle.f2_top.specs.declared.status.Status.TheVariants as status
-use Rattle.f2_top.specs.Plays.{PlaysScript, PlaysLines, mkfs_text, text_of, limits_of}
-use Rattle.f2_top.specs.Runs.{PlaysFrom, IsMounted, SomePrint, SomeCut, Ends, EndsScript}
-use Rattle.f2_top.specs.Streams.{IsCutAfter, PutsSome}
+use Rattle.f2_top.specs.Plays.{PlaysScript, PlaysLines, mkfs_text, limits_of}
+use Rattle.f2_top.specs.Runs.{PlaysFrom, IsMounted, SomeCut, Ends, EndsScript}
+use Rattle.f2_top.specs.Streams.{PutsSome}
 
 abbrev no_marks : List Mark
 no_marks = []

@@ -1,5 +1,5 @@
 -- Lines that are played one after another, and what they print.
-use Rattle.std.proofs.Common.{◌≡◌, ℕ, suc, List, [], ◌∷◌, ◌++◌, refl, sym, ap, ◌∙◌, subst, append_assoc, append-nil, length, take, inl, Result, Ok, Err, IfOk, arith}
+use Rattle.std.proofs.Common.{◌≡◌, ℕ, List, [], ◌∷◌, ◌++◌, refl, sym, ap, ◌∙◌, subst, append_assoc, append-nil, length, take, inl, Result, Ok, Err, IfOk, arith}
 use Rattle.std.specs.Prelude.{Option}
 use Rattle.std.proofs.lemmas.Grind.{flat_map-append}
 use Rattle.std.proofs.Math.Seq.{take-append_seam}
@@ -20,7 +20,7 @@ use Rattle.f2_top.specs.Runs.{PlaysAs, PlaysTo, PlaysFrom, SomePrint, SomeCut}
 use Rattle.std.specs.List.{AllByRecursion}
 use Rattle.std.specs.Io.KnownBytes.{Appends}
 use Rattle.std.proofs.KnownBytes.{Appends-trans}
-use Rattle.f2_top.specs.Streams.{IsCutAfter, PutsSome, Puts}
+use Rattle.f2_top.specs.Streams.{IsCutAfter, PutsSome}
 
 -- lines, and then one line more
 pub PlaysLines-snoc : (limits : Limits) (from mid : State) (lines : List Line) (parts : List Part) (line : Line) (part : Part)

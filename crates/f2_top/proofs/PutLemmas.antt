@@ -1,9 +1,9 @@
 -- Texts that went out one after another.
-use Rattle.std.proofs.Common.{◌≡◌, ℕ, List, [], ◌∷◌, ◌++◌, refl, sym, ap, ◌∙◌, append_assoc, append-nil, is_err, true, false, take, drop, take-append-drop, subst, Result, Ok, Err}
+use Rattle.std.proofs.Common.{◌≡◌, ℕ, List, [], ◌++◌, refl, sym, ap, ◌∙◌, append_assoc, append-nil, is_err, true, false, take, drop, take-append-drop, subst, Result, Ok, Err}
 use Rattle.std.specs.Prelude.{Option}
 use Rattle.std.specs.Io.KnownBytes.{Appends}
 use Rattle.std.proofs.KnownBytes.{Appends-nil, Appends-trans}
-use Rattle.f2_top.specs.Streams.{IsCutAfter, PutsSome, Puts}
+use Rattle.f2_top.specs.Streams.{PutsSome, Puts}
 
 -- a text that was cut is cut also where more stands behind it
 pub PutsSome-more : (old new : Option (List ℕ)) (text more : List ℕ) → PutsSome old new text → PutsSome old new (text ++ more)

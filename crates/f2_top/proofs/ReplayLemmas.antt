@@ -1,6 +1,6 @@
 -- From the lines of a script to what its bytes tell.
-use Rattle.std.proofs.Common.{◌≡◌, ℕ, Bool, true, false, List, [], ◌∷◌, ◌++◌, refl, sym, ap, ◌∙◌, subst, append_assoc, append-nil, inl, inr, Result, Ok, Err}
-use Rattle.std.specs.Prelude.{◌⊎◌, Option}
+use Rattle.std.proofs.Common.{◌≡◌, ℕ, true, false, List, [], ◌∷◌, ◌++◌, refl, sym, ap, ◌∙◌, subst, append_assoc, append-nil, inr, Result, Ok, Err}
+use Rattle.std.specs.Prelude.{Option}
 use Rattle.std.specs.List.{AllByRecursion}
 use Rattle.f2_model.specs.declared.requests.Request.{Request}
 use Rattle.f2_model.specs.declared.requests.Request.TheVariants as request
@@ -13,14 +13,12 @@ use Rattle.f2_script.specs.Grammar.{IsFirstFault, AreLines, IsRequest, IsTooLong
 use Rattle.f2_top.specs.declared.status.Status.{Status}
 use Rattle.f2_top.specs.declared.status.Status.TheVariants as status
 use Rattle.f2_top.specs.Endings.{IsSilent, last_line}
-use Rattle.f2_top.specs.Plays.{PlaysScript}
-use Rattle.f2_top.specs.Reads.{TakesScript, TakesSome}
-use Rattle.f2_top.specs.Replay.{IsReadAs, PlaysFirst, Prints, Tells, IsCutOff, Writes, IsUnread, Replays, read, unread, Finishes, said_whole, broken_off, IsReplayed, IsRefused, said, cut_off}
+use Rattle.f2_top.specs.Reads.{TakesScript}
+use Rattle.f2_top.specs.Replay.{Prints, IsCutOff, Writes, IsUnread, Replays, read, unread, Finishes, said_whole, broken_off, IsReplayed, IsRefused, said, cut_off}
 use Rattle.f2_top.specs.Runs as runs
 use Rattle.f2_top.specs.Runs.{IsPlayable, IsPlayableScript, EndsScript, WritesFirst, Ran}
 use Rattle.std.specs.Io.KnownBytes.{Appends}
 use Rattle.std.proofs.KnownBytes.{Appends-nil, Appends-trans}
-use Rattle.f2_disk.specs.Faults.{Rose}
 use Rattle.f2_top.specs.Streams.{IsCutAfter}
 
 -- the calls of the grammar can be played

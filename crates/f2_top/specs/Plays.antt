@@ -12,7 +12,7 @@ use Rattle.f2_model.specs.declared.replies.Plan.{Plan}
 use Rattle.f2_model.specs.declared.replies.Step.TheVariants as step
 use Rattle.f2_model.specs.Tree.{Rows}
 use Rattle.f2_model.specs.State.{State, initial}
-use Rattle.f2_model.specs.Step.{Event, Begin, Go, Mount, Answer, Began, Stepped, Found, replied}
+use Rattle.f2_model.specs.Step.{Begin, Go, Mount, Began, Stepped, Found, replied}
 use Rattle.f2_model.specs.Run.{Happening}
 use Rattle.f2_core.specs.Room.{HappenedWithRoom}
 use Rattle.f2_core.specs.Seen.{bare_tree, live_where_up}

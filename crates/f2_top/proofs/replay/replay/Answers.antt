@@ -1,4 +1,4 @@
-use Rattle.std.proofs.Common.{◌≡◌, sym, subst, refl, inl, ap, Err, List, ℕ}
+use Rattle.std.proofs.Common.{sym, subst, refl, inl, ap, Err, List, ℕ}
 use Rattle.f2_top.specs.Reads.{TakesScript}
 use Rattle.f2_top.proofs.ReplayLemmas.{Spells-playable, Ran-lines, Ran-none, Ran-line, ok-fits, line-fits}
 use Rattle.f2_top.proofs.replay.replay.Goals as goal
