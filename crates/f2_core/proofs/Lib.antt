@@ -4,3 +4,4 @@ pub mod Steps
 pub mod Runs
 pub mod Created
 pub mod Opened
+pub mod ComeTo

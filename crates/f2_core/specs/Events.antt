@@ -48,3 +48,14 @@ pub record ComesTo {D : Type 0} (old new : Seen D) (event : machine.Event) (answ
   pub choices : new.history.choices ≡ old.history.choices ++ choices_of events
   pub limits : new.limits ≡ old.limits
   pub disk : new.disk ≡ old.disk
+
+-- calls of a core one after another: each comes to its event with its answer
+abbrev pub ComeTo : {D : Type 0} → Seen D → List Event → List Answer → Seen D → Type 0
+ComeTo old [] [] new = old ≡ new
+ComeTo old [] (answer ∷ answers) new = ⊥
+ComeTo old (event ∷ events) [] new = ⊥
+ComeTo {D} old (event ∷ events) (answer ∷ answers) new = (mid : Seen D) × ComesTo old mid (event_of event) (answer_of answer) × ComeTo mid events answers new
+
+-- some first events came to some answers
+abbrev pub ComeToFirst : {D : Type 0} → Seen D → List Event → Seen D → Type 0
+ComeToFirst old events new = (first : List Event) × ((rest : List Event) × ((events ≡ first ++ rest) × ((answers : List Answer) × ComeTo old first answers new)))

@@ -1,15 +1,17 @@
 //! The core.
-ghost use Rattle.std.specs.Prelude.{◌≡◌, ◌+◌, ◌*◌, ◌<◌, ◌≤◌, [], MatchResult, MatchOption, Option, Some, None};
+ghost use Rattle.std.specs.Prelude.{◌≡◌, ◌+◌, ◌*◌, ◌<◌, ◌≤◌, [], IfOk, OnOk, OnErr, MatchResult, MatchOption, Option, Some, None};
 ghost use Rattle.std.specs.Option.{option_copied};
+ghost use Rattle.std.specs.List.{AllByRecursion};
+ghost use Rattle.f2_disk.specs.Meter.{HasMoreRoom};
 ghost use Rattle.f2_model.specs.State.{initial};
 ghost use Rattle.f2_model.specs.Step as machine;
 ghost use Rattle.f2_model.specs.declared.requests.Request.TheVariants.{Create};
 
 use crate::events::{Answer, Event, MountFault};
 use crate::files::{add_file, bare_tree, outcome_of};
-use f2_disk::Disk;
+use f2_disk::{Bench, Disk};
 use f2_model::{Begun, Entry, Limits, Log, Outcome, Path, Plan, Reply, Request, Tree};
-use std::alloc::Global;
+use std::alloc::{AllocError, Global};
 use std::marker::Model;
 
 /// A call begins only where the history has fewer entries.
@@ -56,7 +58,7 @@ impl<D> Model for Core<D> {
 }
 
 impl<D: Disk> Core<D> {
-    ghost use Rattle.f2_core.specs.Events.{IsServed, ComesTo, event_of, answer_of};
+    ghost use Rattle.f2_core.specs.Events.{IsServed, ComesTo, ComeTo, ComeToFirst, event_of, answer_of};
     ghost use Rattle.f2_core.specs.Seen.{IsShut, live_where_up};
 
     /// A core whose volume is closed, with an empty history. Where memory is refused the disk comes back.
@@ -91,6 +93,20 @@ impl<D: Disk> Core<D> {
             Event::Begin { .. } => unreachable!(),
             Event::Mount => self.mount(),
         }
+    }
+
+    /// Events one after another, and their answers. Where memory for the answers is refused, some first events
+    /// were made.
+    pub fn run(&mut self, events: Vec<Event>) -> Result<Vec<Answer>, AllocError>
+        requires { AllByRecursion IsServed events.items }
+        ensures ok { IfOk result (λ answers. ComeTo self.old events.items answers.items self.new) }
+        ensures err { OnErr result (ComeToFirst self.old events.items self.new) }
+    {
+        let mut answers = Vec::with_capacity(self.alloc, events.len())?;
+        for event in events {
+            answers.push(self.step(event))?;
+        }
+        Ok(answers)
     }
 
     /// The tree of an open volume.
@@ -163,5 +179,17 @@ impl<D: Disk> Core<D> {
         self.history.add(Entry::CpDone { seat: MOUNT_SEAT }, None);
         self.is_open = true;
         Answer::Found(0)
+    }
+}
+
+impl<D: Bench> Core<D> {
+    /// Takes room for `n` writes of the bench. Where memory is refused it may have taken some; all else stays.
+    pub fn ready(&mut self, n: u32) -> Result<(), AllocError>
+        ensures room { OnOk result (n ≤ (D.meter self.new.disk).spare) }
+        ensures more { HasMoreRoom (D.meter self.old.disk) (D.meter self.new.disk) }
+        ensures contents { D.contents self.new.disk ≡ D.contents self.old.disk }
+        ensures kept { self.new ≡ record self.old { disk = self.new.disk } }
+    {
+        self.disk.ready(n)
     }
 }

@@ -3,7 +3,7 @@ ghost use Rattle.std.specs.Prelude.{IfOk};
 ghost use Rattle.f2_core.specs.Events.{IsServed};
 
 use crate::{Answer, Core, Event};
-use f2_disk::MemDisk;
+use f2_disk::{MemBench, MemDisk};
 use f2_model::{Begun, Limits, Name, Path, Reply, Request};
 use std::alloc::{AllocError, Global};
 use std::test::Fail;
@@ -39,5 +39,21 @@ fn files_are_made_in_an_open_volume(rt: HostRuntime) -> Result<(), Fail> {
     assert!(rt; matches!(there, Answer::Begun(Begun::Replied(Reply::Exists))));
     assert_eq!(rt; core.tree().ok_or("a tree")?.len(), 2);
     let _disk = core.into_disk();
+    Ok(())
+}
+
+#[test]
+fn events_are_run_in_order(rt: HostRuntime) -> Result<(), Fail> {
+    let bench = MemBench::new(rt.alloc())?;
+    let Ok(mut core) = Core::shut(rt.alloc(), bench, LIMITS) else {
+        return Err("a core".into());
+    };
+    core.ready(1)?;
+    let mut events = Vec::new(rt.alloc());
+    events.push(Event::Mount)?;
+    events.push(create(rt.alloc(), b"a")?)?;
+    let answers = core.run(events)?;
+    assert_eq!(rt; answers.len(), 2);
+    assert!(rt; matches!(answers[0], Answer::Found(0)));
     Ok(())
 }
