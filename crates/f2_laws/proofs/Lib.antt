@@ -15,3 +15,4 @@ pub mod Calls
 pub mod Moves
 pub mod NewRows
 pub mod Outcomes
+pub mod Orders

@@ -18,6 +18,7 @@ use Rattle.std.specs.FinMap.Entries.{by_order}
 use Rattle.std.specs.FinSet as set
 use Rattle.f2_format.specs.Offsets.{node_count}
 use Rattle.f2_format.specs.Packing.{blocks_of_names}
+use Rattle.f2_model.specs.Rising.{rising}
 use Rattle.f2_model.specs.Tree.{Rows, ROOT, IsGoodTree, names_of, is_in, names_under, names_in, is_directory, walk, parent_path, last_name}
 use Rattle.f2_model.specs.Count.{dentry_blocks, nodes_of_row, data_of_row, nodes_of_tree, data_of_tree, page_numbers, data_of_kind}
 use Rattle.f2_model.specs.Call.{space_refusal, first_refusal, on_row, new_row, to_directory}
@@ -169,7 +170,7 @@ module _ (most : ℕ) (tree : Rows) (good : IsGoodTree most tree) (kind : Kind) 
   module _ (ino other : ℕ) (none : finite.get tree ino ≡ None) (other_none : finite.get tree other ≡ None) where
     blocks_alike : (directory : ℕ) → dentry_blocks (rows_with ino) directory ≡ dentry_blocks (rows_with other) directory
     blocks_alike directory =
-        ap (λ names. blocks_of_names (set.items names)) (same_names (names_in (rows_with ino) directory) (names_in (rows_with other) directory) (λ one.
+        ap (λ names. blocks_of_names (rising names)) (same_names (names_in (rows_with ino) directory) (names_in (rows_with other) directory) (λ one.
         inserted_names tree ino (row_at ino) none directory one
         ∙ ap (λ own. list_any (eq_by_cmp (slice_cmp nat_cmp) one) own || list_any (eq_by_cmp (slice_cmp nat_cmp) one) (names_under (finite.values tree) directory)) (own_is ino directory none ∙ sym (own_is other directory other_none))
         ∙ sym (inserted_names tree other (row_at other) other_none directory one)))
@@ -183,7 +184,7 @@ module _ (most : ℕ) (tree : Rows) (good : IsGoodTree most tree) (kind : Kind) 
         ∙ none_under (eq_by_cmp (slice_cmp nat_cmp) one) new (finite.values tree) (nobody_in new absent)
 
     own_blocks : dentry_blocks (rows_with ino) ino ≡ dentry_blocks (rows_with other) other
-    own_blocks = ap (λ names. blocks_of_names (set.items names)) (same_names (names_in (rows_with ino) ino) (names_in (rows_with other) other) (λ one. nothing_in ino none one ∙ sym (nothing_in other other_none one)))
+    own_blocks = ap (λ names. blocks_of_names (rising names)) (same_names (names_in (rows_with ino) ino) (names_in (rows_with other) other) (λ one. nothing_in ino none one ∙ sym (nothing_in other other_none one)))
 
     pub nodes_alike : nodes_of_tree (finite.insert tree ino (row_at ino)) ≡ nodes_of_tree (finite.insert tree other (row_at other))
     nodes_alike =

@@ -1,4 +1,5 @@
 -- What the definitions of the abstract machine come to: statements about them that hold for every tree, state and call.
+pub mod Order
 pub mod Rolling
 pub mod Refusals
 pub mod Survival

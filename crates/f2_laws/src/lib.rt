@@ -11,6 +11,7 @@
 mod beginning;
 mod choice;
 mod goodness;
+mod order;
 mod refusals;
 mod rolling;
 mod room;
@@ -20,6 +21,7 @@ mod survival;
 pub use beginning::calls_have_their_outcomes;
 pub use choice::choices_decide;
 pub use goodness::calls_keep_trees_good;
+pub use order::members_are_in_order;
 pub use refusals::refusals_leave_the_tree;
 pub use rolling::marks_roll_in_order;
 pub use room::free_ino_is_there;

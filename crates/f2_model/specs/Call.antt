@@ -4,7 +4,7 @@ use Rattle.std.specs.Prelude.{Option, Some, None, Result, Ok, Err}
 use Rattle.std.specs.Bool.{then_some}
 use Rattle.std.specs.List.{list_any, starts_with}
 use Rattle.std.specs.FinMap as map
-use Rattle.std.specs.FinSet as set
+use Rattle.f2_model.specs.Rising.{rising}
 use Rattle.f2_model.specs.Names.{same_name, is_good_path}
 use Rattle.f2_model.specs.Content.{bytes_between, put_pieces, raised_size, cut_pages, end_of}
 use Rattle.f2_model.specs.Tree.{Rows, MOST_DEPTH, is_directory, is_in, walk, parent_path, last_name, names_in}
@@ -170,7 +170,7 @@ bytes_told off len (Ok row) = Bytes (bytes_between row.pages off (min (off + len
 bytes_told off len (Err refusal) = refusal
 
 abbrev pub names_told : Rows → Result Row Reply → Reply
-names_told tree (Ok row) = Names (set.items (names_in (map.values tree) row.ino))
+names_told tree (Ok row) = Names (rising (names_in (map.values tree) row.ino))
 names_told tree (Err refusal) = refusal
 
 -- the reply to a call that isn't refused

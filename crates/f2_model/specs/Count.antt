@@ -2,7 +2,7 @@
 use Rattle.std.specs.Prelude.{ℕ, List}
 use Rattle.std.specs.List.{range_with_len, sum_by}
 use Rattle.std.specs.FinMap as map
-use Rattle.std.specs.FinSet as set
+use Rattle.f2_model.specs.Rising.{rising}
 use Rattle.f2_format.specs.Offsets.{node_count}
 use Rattle.f2_format.specs.Packing.{blocks_of_names}
 use Rattle.f2_model.specs.Tree.{Rows, names_in}
@@ -12,7 +12,7 @@ use Rattle.f2_model.specs.declared.rows.Kind.TheVariants.{Regular, Directory}
 
 -- the dentry blocks of a directory that has the names that rows have in it
 abbrev pub dentry_blocks : List Row → ℕ → ℕ
-dentry_blocks rows directory = blocks_of_names (set.items (names_in rows directory))
+dentry_blocks rows directory = blocks_of_names (rising (names_in rows directory))
 
 -- the page numbers of a row of a kind among rows: a directory's dentry blocks count as its pages
 abbrev pub page_numbers : Kind → List Row → Row → List ℕ

@@ -6,6 +6,7 @@ use Rattle.std.specs.List.{list_any, filter, filter_map, fold, count_by, range_w
 use Rattle.std.specs.Ordering.{nat_cmp}
 use Rattle.std.specs.FinMap as map
 use Rattle.std.specs.FinSet as set
+use Rattle.f2_model.specs.Rising.{rising}
 use Rattle.f2_format.specs.Offsets.{node_count}
 use Rattle.f2_model.specs.Tree.{Rows, is_directory, stands_at, names_of}
 use Rattle.f2_model.specs.Count.{dentry_blocks, nodes_of_row, data_of_row}
@@ -31,7 +32,7 @@ nothing = record { nodes = 0; pages = 0 }
 
 -- how many pairs of a set an ino has
 abbrev pub pairs_of : ℕ → Pairs → ℕ
-pairs_of ino pairs = count_by (λ pair. pair.0 == ino) (set.items pairs)
+pairs_of ino pairs = count_by (λ pair. pair.0 == ino) (rising pairs)
 
 -- what one more fsync of a file has to write: its dirty pages, and its dirty direct nodes and the inode
 abbrev pub needed : State → ℕ → Both
@@ -69,7 +70,7 @@ greatest_of rows ino =
 
 -- the inos of the regular files among rows
 abbrev pub regular_inos : List Row → List ℕ
-regular_inos rows = set.items {R = nat_cmp} (set.from_list (map_list (λ row. row.ino) (filter (λ row. not (is_directory row.kind)) rows)))
+regular_inos rows = rising {R = nat_cmp} (set.from_list (map_list (λ row. row.ino) (filter (λ row. not (is_directory row.kind)) rows)))
 
 -- what a directory takes with the names that rows have in it
 abbrev pub of_directory : List Row → ℕ → Both

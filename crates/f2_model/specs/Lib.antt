@@ -1,4 +1,5 @@
 -- The abstract machine: what the tree is, what each call does, and what a crash may leave.
+pub mod Rising
 pub mod Names
 pub mod Content
 pub mod Tree

@@ -5,6 +5,7 @@ use Rattle.std.specs.Bool.{MatchBool}
 use Rattle.std.specs.List.{list_any, find, filter}
 use Rattle.std.specs.FinMap as map
 use Rattle.std.specs.FinSet as set
+use Rattle.f2_model.specs.Rising.{rising}
 use Rattle.f2_model.specs.Tree.{Rows, walk}
 use Rattle.f2_model.specs.Call.{Limits, refusal, effect, answer, space_refusal}
 use Rattle.f2_model.specs.State.{State, Mark, Mode, Shut, Mounting, Up, Part, InPages, InNodes, Marked, Stage, Flight, InFsync, InCheck, Pairs, rolled, IsFreeIno, marked_dirty}
@@ -252,7 +253,7 @@ second_of None = None
 second_of (Some pair) = Some pair.1
 
 abbrev pub least_of : Pairs → ℕ → Option ℕ
-least_of pairs ino = second_of (find (λ pair. pair.0 == ino) (set.items pairs))
+least_of pairs ino = second_of (find (λ pair. pair.0 == ino) (rising pairs))
 
 -- the state after a page, or a direct node, was written
 abbrev pub page_written : State → ℕ → ℕ → State
@@ -362,7 +363,7 @@ StepGo faults state seat turn =
 
 -- the least dirty page, or direct node, of a file that isn't in fsync
 abbrev pub least_thawed : State → Pairs → Option (ℕ × ℕ)
-least_thawed state pairs = find (λ pair. not (list_any (λ ino. ino == pair.0) (frozen_inos state))) (set.items pairs)
+least_thawed state pairs = find (λ pair. not (list_any (λ ino. ino == pair.0) (frozen_inos state))) (rising pairs)
 
 -- whether a zone has room for one block more of the flusher
 abbrev pub has_data_room : Limits → State → Bool

@@ -106,6 +106,6 @@ pub record IsGoodTree (most_size : ℕ) (tree : Rows) : Type 0 where
 abbrev pub names_under : List Row → ℕ → List (List ℕ)
 names_under rows directory = map_list (λ at. at.1) (filter (λ at. at.0 == directory) (flat_map names_of rows))
 
--- the same as a set, whose items are in byte order
+-- the same as a set, which orders them by their bytes
 abbrev pub names_in : List Row → ℕ → set.FinSet (slice_cmp nat_cmp)
 names_in rows directory = set.from_list (names_under rows directory)
