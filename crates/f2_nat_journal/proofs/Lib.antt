@@ -1,2 +1,3 @@
+pub mod EntryReads
 pub mod ItemBytes
 pub mod ItemLists

@@ -2,7 +2,8 @@
 //!
 //! A [`Journal`] is seen as the list of its nids with their entries, at most 38, in the order in which they
 //! stand. The layer above reads it with [`Journal::read`] and writes it with [`Journal::write`], which give
-//! back the same list; in between it asks and changes it with [`Journal::find`] and [`Journal::put`].
+//! back the same list ([`written_journal_reads_back`]); in between it asks and changes it with
+//! [`Journal::find`] and [`Journal::put`].
 //!
 //! The definitions stand in `f2_format`, in `specs/Journal.antt`.
 #![tactic(auto)]
@@ -11,6 +12,7 @@ ghost use Rattle.std.specs.Prelude.{position, ◌==◌, ◌≡◌, ◌<◌, ◌�
 ghost use Rattle.f2_format.specs.Journal.{JournalList, journal_count, journal_entry, journal_of, summary_block, journal_find, journal_with, journal_entry_start, journal_entry_bytes};
 ghost use Rattle.f2_nat_block.specs.NatEntry.{entry_of, place_of as pair};
 ghost use Rattle.f2_nat_journal.specs.Item.{pair_of};
+ghost use Rattle.f2_nat_journal.specs.Round.{IsEntry, WrittenJournalReadsBack};
 ghost use Rattle.f2_format.specs.Bytes.{with_bytes};
 
 #[cfg(test)]
@@ -96,12 +98,13 @@ impl Journal {
     pub fn write(&self, b: &mut Block)
         ensures written { b.new ≡ summary_block self.now }
         ensures count { journal_count b.new ≡ length self.now }
+        ensures reads_back { journal_of b.new ≡ self.now }
     {
         *b = [0; 4096];
         let items = self.items.as_slice();
         put16(b, COUNT_AT, items.len() as u16);
         for (place, item) in items.iter().enumerate() {
-            write_item(b, place, item);
+            write_item(b, place, item.nid, item.entry);
         }
     }
 
@@ -137,6 +140,12 @@ impl Journal {
     }
 }
 
+/// A journal that was written into a summary is read from it, where it has at most 38 entries and each number
+/// fits its bytes.
+pub fn written_journal_reads_back()
+    ensures { WrittenJournalReadsBack }
+{}
+
 /// The place of the first item of the nid.
 fn place_of(items: &[Item], nid: u32) -> Option<usize>
     ensures { result ≡ position (λ item. item.nid == nid) items.now }
@@ -160,13 +169,14 @@ fn read_item(b: &Block, place: usize) -> Item
 }
 
 /// Puts an entry at this place of a summary's journal.
-fn write_item(b: &mut Block, place: usize, item: &Item)
+fn write_item(b: &mut Block, place: usize, nid: u32, e: NatEntry)
     requires { place < 38 }
-    ensures { b.new ≡ with_bytes b.old (journal_entry_start place) (journal_entry_bytes (pair_of item.now)) }
+    ensures written { b.new ≡ with_bytes b.old (journal_entry_start place) (journal_entry_bytes (nid, pair e)) }
+    ensures fits { IsEntry (nid, pair e) }
 {
     let at = ENTRIES_AT + ENTRY_BYTES * place;
-    put32(b, at, item.nid);
+    put32(b, at, nid);
     b[at + 4] = 0;
-    put32(b, at + 5, item.entry.ino);
-    put32(b, at + 9, item.entry.addr);
+    put32(b, at + 5, e.ino);
+    put32(b, at + 9, e.addr);
 }
