@@ -1,0 +1,2 @@
+pub mod Dents
+pub mod Packed
