@@ -1,0 +1,6 @@
+-- Proofs of the laws about images.
+pub mod ChainLemmas
+pub mod OneBase
+pub mod OneMarks
+pub mod Routes
+pub mod SameBase

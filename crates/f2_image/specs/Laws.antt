@@ -1,0 +1,37 @@
+-- What the definitions of an image come to: statements about them that hold for every image.
+use Rattle.std.specs.Prelude.{◌≡◌, ℕ, ◌+◌, ◌≤◌, List, length}
+use Rattle.f2_format.specs.Geometry.{node_third, nat_address}
+use Rattle.f2_format.specs.Nat.{nat_block_of, is_second_copy}
+use Rattle.f2_model.specs.Tree.{Rows}
+use Rattle.f2_model.specs.State.{Mark}
+use Rattle.f2_image.specs.Images.{Image, block_at}
+use Rattle.f2_image.specs.Packs.{Checkpoint, IsCheckpoint}
+use Rattle.f2_image.specs.Nodes.{node_address}
+use Rattle.f2_image.specs.Bases.{IsBase}
+use Rattle.f2_image.specs.Chains.{chain, AreMarks}
+use Rattle.f2_image.specs.Reached.{IsNode, IsBasePage}
+
+-- an image has one checkpoint at most, and with it one base and one list of marks
+abbrev pub OneCheckpoint : Type 0
+OneCheckpoint = (image : Image) (a b : Checkpoint) → IsCheckpoint image a → IsCheckpoint image b → a ≡ b
+
+abbrev pub OneBase : Type 0
+OneBase = (image : Image) (point : Checkpoint) (a b : Rows) → IsBase image point a → IsBase image point b → a ≡ b
+
+abbrev pub OneListOfMarks : Type 0
+OneListOfMarks = (image : Image) (point : Checkpoint) (base : Rows) (a b : List Mark) → AreMarks image point base a → AreMarks image point base b → a ≡ b
+
+-- a chain ends within one block more than a third of the node zone
+abbrev pub ChainsEnd : Type 0
+ChainsEnd = (image : Image) (point : Checkpoint) → length (chain image point) ≤ node_third point.extent + 1
+
+-- the blocks that a base is read from: those of the node address table for its nodes, its nodes and its pages
+pub data IsReadFrom (image : Image) (point : Checkpoint) (at : ℕ) : Type 0 where
+  table : (ino offset nid : ℕ) → IsNode image point ino offset nid → at ≡ nat_address point.extent (nat_block_of nid) (is_second_copy point.head.bitmap (nat_block_of nid)) → IsReadFrom image point at
+  node : (ino offset nid : ℕ) → IsNode image point ino offset nid → at ≡ node_address image point nid → IsReadFrom image point at
+  page : (ino page : ℕ) → IsBasePage image point ino page at → IsReadFrom image point at
+
+-- images that agree on the blocks that a base is read from have the same base
+abbrev pub SameBlocksSameBase : Type 0
+SameBlocksSameBase = (image other : Image) (point : Checkpoint) (base : Rows) → IsBase image point base
+    → ((at : ℕ) → IsReadFrom image point at → block_at other at ≡ block_at image at) → IsBase other point base

@@ -1,0 +1,44 @@
+-- What an image stands for, and when a disk is safe: whatever a crash leaves of it stands for what the machine allows.
+use Rattle.std.specs.Prelude.{ℕ, ◌≤◌, List, IsTrue}
+use Rattle.f2_format.specs.Geometry.{is_in_node}
+use Rattle.f2_format.specs.Footer.{footer_version}
+use Rattle.f2_format.specs.Pack.{head_of}
+use Rattle.f2_disk.specs.Contents.{Contents, IsImage}
+use Rattle.f2_model.specs.Tree.{Rows}
+use Rattle.f2_model.specs.State.{State, Mark, MayRemain}
+use Rattle.f2_image.specs.Images.{Image, block_at}
+use Rattle.f2_image.specs.Packs.{Side, tail_address, Checkpoint, IsCheckpoint}
+use Rattle.f2_image.specs.Bases.{IsBase}
+use Rattle.f2_image.specs.Chains.{AreMarks}
+use Rattle.f2_image.specs.Faults.{IsSound}
+
+-- an image with this checkpoint stands for a base and the marks after it
+pub record MeansAt (image : Image) (point : Checkpoint) (base : Rows) (marks : List Mark) : Type 0 where
+  pub checkpoint : IsCheckpoint image point
+  pub sound : IsSound image point
+  pub is_base : IsBase image point base
+  pub are_marks : AreMarks image point base marks
+
+abbrev pub Means : Image → Rows → List Mark → Type 0
+Means image base marks = (point : Checkpoint) × MeansAt image point base marks
+
+-- no block and no tail of an image is of a later version than its checkpoint, so none can come to count by itself
+pub record IsCleanAt (image : Image) (point : Checkpoint) : Type 0 where
+  pub nodes : (at : ℕ) → IsTrue (is_in_node point.extent at) → footer_version (block_at image at) ≤ point.head.version
+  pub tails : (side : Side) → (head_of (block_at image (tail_address side))).version ≤ point.head.version
+
+abbrev pub IsClean : Image → Type 0
+IsClean image = (point : Checkpoint) × IsCheckpoint image point × IsCleanAt image point
+
+-- an image stands for what may remain of a state, and is clean
+pub record IsLeft (state : State) (image : Image) : Type 0 where
+  pub point : Checkpoint
+  pub base : Rows
+  pub marks : List Mark
+  pub remains : MayRemain state base marks
+  pub means : MeansAt image point base marks
+  pub clean : IsCleanAt image point
+
+-- each image that a crash may leave of a disk is such a one
+abbrev pub IsSafe : Contents → State → Type 0
+IsSafe lists state = (image : Image) → IsImage lists image → IsLeft state image

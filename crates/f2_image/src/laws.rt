@@ -1,0 +1,19 @@
+//! Laws about images.
+ghost use Rattle.f2_image.specs.Laws.{OneCheckpoint, OneBase, OneListOfMarks, ChainsEnd, SameBlocksSameBase};
+
+/// An image has one checkpoint at most, and with it one base and one list of marks.
+pub fn one_meaning()
+    ensures checkpoint { OneCheckpoint }
+    ensures base { OneBase }
+    ensures marks { OneListOfMarks }
+{}
+
+/// The chain of every image ends.
+pub fn chains_end()
+    ensures { ChainsEnd }
+{}
+
+/// A base depends on the blocks alone that it is read from.
+pub fn same_blocks_same_base()
+    ensures { SameBlocksSameBase }
+{}
