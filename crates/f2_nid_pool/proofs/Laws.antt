@@ -1,5 +1,5 @@
 -- Each change of a pool keeps what its sets keep.
-use Rattle.std.proofs.Common.{◌≡◌, ◌≢◌, ℕ, zero, suc, ◌+◌, ◌<◌, ◌≤◌, Bool, true, false, not, ◌&&◌, ◌||◌, nat_lt, inl, inr, refl, sym, ap, ◌∙◌, subst, arith, nat_cmp}
+use Rattle.std.proofs.Common.{◌≡◌, ◌≢◌, ℕ, ◌<◌, ◌≤◌, Bool, true, false, not, ◌&&◌, ◌||◌, nat_lt, inl, inr, refl, sym, ap, ◌∙◌, arith, nat_cmp}
 use Rattle.std.specs.Ordering.{eq_by_cmp}
 use Rattle.std.specs.Cmp.{nat_cmp_total, unsigned_tied}
 use Rattle.std.specs.FinSet as set
@@ -7,7 +7,7 @@ use Rattle.std.specs.FinSet.{contains-insert, contains-remove, contains-empty}
 use Rattle.std.proofs.lemmas.Bool.{cases_lt, cases_eq, false≢true}
 use Rattle.std.proofs.lemmas.Bool.Decides.{nat_tests}
 use Rattle.f2_bitset.specs.Numbers.{Numbers, IsFull, IsLeastMissing}
-use Rattle.f2_bitset.proofs.Members.{contains-insert_same, contains-insert_other, contains-remove_same, contains-remove_other}
+use Rattle.f2_bitset.proofs.Members.{contains-insert_same, contains-insert_other, contains-remove_other}
 use Rattle.f2_nid_pool.specs.Nids.{IsPool}
 
 -- the set with one number more, over the same range

@@ -1,4 +1,3 @@
-use Rattle.std.proofs.Common.{◌+◌, ◌-◌, ◌*◌, ◌<◌, ◌≤◌, arith}
 use Rattle.f2_space.proofs.Laws.{IsShared-release}
 use Rattle.f2_space.proofs.Zone.release.Goals as goal
 

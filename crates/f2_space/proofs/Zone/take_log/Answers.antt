@@ -1,4 +1,4 @@
-use Rattle.std.proofs.Common.{◌+◌, ◌-◌, ◌*◌, ◌<◌, ◌≤◌, arith}
+use Rattle.std.proofs.Common.{arith}
 use Rattle.f2_space.proofs.Laws.{IsShared-take}
 use Rattle.f2_space.proofs.Zone.take_log.Goals as goal
 

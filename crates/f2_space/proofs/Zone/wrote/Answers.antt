@@ -1,4 +1,4 @@
-use Rattle.std.proofs.Common.{◌+◌, ◌-◌, ◌<◌, ◌≤◌, arith}
+use Rattle.std.proofs.Common.{arith}
 use Rattle.f2_space.proofs.Laws.{IsShared-wrote, promise_kept}
 use Rattle.f2_space.proofs.Zone.wrote.Goals as goal
 
