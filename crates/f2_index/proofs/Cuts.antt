@@ -9,7 +9,7 @@ use Rattle.std.proofs.lemmas.Bool.Decides.{nat_tests}
 use Rattle.f2_format.specs.Offsets.{direct_of}
 use Rattle.f2_index.specs.Paged.{Paged, IsCut, is_direct_of, pages_of, has_page}
 use Rattle.f2_index.specs.Nodes.{Nodes, AreNodesOf, counted, is_dirty, dirty_of, without_page}
-use Rattle.f2_index.specs.declared.index.Node.{Node}
+use Rattle.f2_index.specs.declared.nodes.Node.{Node}
 use Rattle.f2_index.specs.Tables.{IsLastFrom}
 use Rattle.f2_index.proofs.Tables.{same}
 use Rattle.f2_index.proofs.Counts.{get-kept, len-kept-remove, contains-dirty_of}
@@ -32,7 +32,7 @@ some_entry m (x ∷ es) e some =
     here k = grind (arith, nat_tests)
 
 -- a page that a direct node has
-page_of : (m : Pages) (d : ℕ) → has_page m d ≡ true → (k : ℕ) × ((is_some (map.get m k) ≡ true) × (test_of d k ≡ true))
+pub page_of : (m : Pages) (d : ℕ) → has_page m d ≡ true → (k : ℕ) × ((is_some (map.get m k) ≡ true) × (test_of d k ≡ true))
 page_of m d has =
     let long : 0 < map.len (pages_of m d) = grind (arith, nat_tests) in
     let found = some_entry (pages_of m d) (map.entries (pages_of m d)) refl long in
@@ -81,11 +81,11 @@ has_fewer m from page d order has =
     let found = page_of (map.retain_keys m (before from)) d has in
     has_since (map.retain_keys m (before page)) d found.0 (there_before m page found.0 ∙ (let was = there_before m from found.0 in let it = found.1.0 in grind (arith, nat_tests))) found.1.1
 
-or_left : (a b : Bool) → a ≡ true → (a || b) ≡ true
+pub or_left : (a b : Bool) → a ≡ true → (a || b) ≡ true
 or_left true b e = refl
 or_left false b e = absurd (let wrong : ◌≡◌ false true = e in cc)
 
-or_right : (a b : Bool) → b ≡ true → (a || b) ≡ true
+pub or_right : (a b : Bool) → b ≡ true → (a || b) ≡ true
 or_right true b e = refl
 or_right false b e = e
 

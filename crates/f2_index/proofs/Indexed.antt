@@ -16,8 +16,8 @@ use Rattle.std.proofs.lemmas.Bool.Decides.{nat_tests}
 use Rattle.std.proofs.lemmas.Map.Views.{All-from_any, length-le_from_below}
 use Rattle.f2_format.specs.Offsets.{page_limit, direct_of}
 use Rattle.f2_index.specs.Paged.{Paged, is_direct_of, pages_of, with_direct}
-use Rattle.f2_index.specs.Nodes.{Nodes, AreNodesOf, counted, is_dirty, dirty_of, with_pages}
-use Rattle.f2_index.specs.declared.index.Node.{Node}
+use Rattle.f2_index.specs.Nodes.{Nodes, AreNodesOf, counted, is_dirty, dirty_of, cleaned, cleaned_at, with_pages}
+use Rattle.f2_index.specs.declared.nodes.Node.{Node}
 use Rattle.f2_index.proofs.Tables.{same}
 use Rattle.f2_index.proofs.Counts.{get-kept, len-kept-insert, contains-dirty_of, same_set}
 
@@ -155,21 +155,21 @@ module _ (pages : map.FinMap nat_cmp ℕ) (nodes : Nodes) (are : AreNodesOf page
   }
 
 module _ (pages : map.FinMap nat_cmp ℕ) (nodes : Nodes) (are : AreNodesOf pages nodes) (offset : ℕ) (node : Node) (there : map.get nodes offset ≡ Some node) where
-  cleaned : Nodes
-  cleaned = map.insert nodes offset (record { pages = node.pages; dirty = false })
+  now_clean : Nodes
+  now_clean = map.insert nodes offset (record { pages = node.pages; dirty = false })
 
-  get-cleaned : (d : ℕ) → map.get cleaned d ≡ cond (eq_by_cmp nat_cmp d offset) (Some (record { pages = node.pages; dirty = false })) (map.get nodes d)
-  unfolding cleaned
+  get-cleaned : (d : ℕ) → map.get now_clean d ≡ cond (eq_by_cmp nat_cmp d offset) (Some (record { pages = node.pages; dirty = false })) (map.get nodes d)
+  unfolding now_clean
   get-cleaned d = map.get-insert nat_cmp_total nodes offset _ d
 
-  counted_cleaned : (d : ℕ) → counted (map.get cleaned d) ≡ counted (map.get nodes d)
+  counted_cleaned : (d : ℕ) → counted (map.get now_clean d) ≡ counted (map.get nodes d)
   counted_cleaned d =
       elim (cases_eq d offset) [
         | inl same ↦ rw same (ap counted (get-cleaned offset) ∙ grind (arith, nat_tests, ap counted there))
         | inr apart ↦ ap counted (get-cleaned d) ∙ grind (arith, nat_tests)
       ]
 
-  present_cleaned : (d : ℕ) → is_some (map.get cleaned d) ≡ is_some (map.get nodes d)
+  present_cleaned : (d : ℕ) → is_some (map.get now_clean d) ≡ is_some (map.get nodes d)
   present_cleaned d =
       elim (cases_eq d offset) [
         | inl same ↦ rw same (ap is_some (get-cleaned offset) ∙ grind (arith, nat_tests, ap is_some there))
@@ -177,7 +177,7 @@ module _ (pages : map.FinMap nat_cmp ℕ) (nodes : Nodes) (are : AreNodesOf page
       ]
 
   pub AreNodesOf-clean : AreNodesOf pages (map.insert nodes offset (record { pages = node.pages; dirty = false }))
-  unfolding cleaned
+  unfolding now_clean
   AreNodesOf-clean = record {
     below = are.below;
     counts = λ d. counted_cleaned d ∙ are.counts d;
@@ -185,10 +185,10 @@ module _ (pages : map.FinMap nat_cmp ℕ) (nodes : Nodes) (are : AreNodesOf page
   }
 
   pub dirty_of-clean : dirty_of (map.insert nodes offset (record { pages = node.pages; dirty = false })) ≡ set.remove (dirty_of nodes) offset
-  unfolding cleaned
+  unfolding now_clean
   dirty_of-clean = same_set _ _ (λ d.
       let was = contains-dirty_of nodes d in
-      contains-dirty_of cleaned d ∙ ap is_dirty (get-cleaned d)
+      contains-dirty_of now_clean d ∙ ap is_dirty (get-cleaned d)
       ∙ sym (set.contains-remove nat_cmp_total (dirty_of nodes) offset d ∙ grind (arith, nat_tests)))
 
 -- a node that isn't there is not dirty
@@ -227,3 +227,19 @@ shown pages dirty = record { pages = pages; dirty = dirty }
 
 pub same_shown : {p q : map.FinMap nat_cmp ℕ} {d e : set.FinSet nat_cmp} → p ≡ q → d ≡ e → shown p d ≡ shown q e
 same_shown same_pages same_dirty = λ i. shown (same_pages i) (same_dirty i)
+
+-- a direct node that is made clean
+module _ (pages : map.FinMap nat_cmp ℕ) (nodes : Nodes) (are : AreNodesOf pages nodes) (offset : ℕ) where
+  pub AreNodesOf-cleaned : AreNodesOf pages (cleaned nodes offset)
+  AreNodesOf-cleaned = by (map.get nodes offset) refl
+    where
+      by : (o : Option Node) → map.get nodes offset ≡ o → AreNodesOf pages (cleaned_at nodes offset o)
+      by None e = are
+      by (Some node) e = AreNodesOf-clean pages nodes are offset node e
+
+  pub dirty_of-cleaned : dirty_of (cleaned nodes offset) ≡ set.remove (dirty_of nodes) offset
+  dirty_of-cleaned = by (map.get nodes offset) refl
+    where
+      by : (o : Option Node) → map.get nodes offset ≡ o → dirty_of (cleaned_at nodes offset o) ≡ set.remove (dirty_of nodes) offset
+      by None e = dirty_of-absent nodes offset e
+      by (Some node) e = dirty_of-clean pages nodes are offset node e

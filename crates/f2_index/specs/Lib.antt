@@ -1,3 +1,4 @@
 pub mod Nodes
 pub mod Paged
+pub mod Slots
 pub mod Tables

@@ -5,7 +5,7 @@ use Rattle.std.specs.FinMap as map
 use Rattle.std.specs.FinSet as set
 use Rattle.f2_format.specs.Offsets.{page_limit}
 use Rattle.f2_index.specs.Paged.{pages_of}
-use Rattle.f2_index.specs.declared.index.Node.{Node}
+use Rattle.f2_index.specs.declared.nodes.Node.{Node}
 
 -- a map from a direct node's offset to what is kept of it
 abbrev pub Nodes : Type 0
@@ -24,6 +24,14 @@ is_dirty (Some node) = node.dirty
 -- the offsets of the dirty nodes
 abbrev pub dirty_of : Nodes → set.FinSet nat_cmp
 dirty_of nodes = set.retain (set.from_list (map.keys nodes)) (λ offset. is_dirty (map.get nodes offset))
+
+-- the node is clean, where it is there
+abbrev pub cleaned_at : Nodes → ℕ → Option Node → Nodes
+cleaned_at nodes offset None = nodes
+cleaned_at nodes offset (Some node) = map.insert nodes offset (record { pages = node.pages; dirty = false })
+
+abbrev pub cleaned : Nodes → ℕ → Nodes
+cleaned nodes offset = cleaned_at nodes offset (map.get nodes offset)
 
 -- the nodes are those that have one of the pages, each with the number of its pages
 pub record AreNodesOf (pages : map.FinMap nat_cmp ℕ) (nodes : Nodes) : Type 0 where

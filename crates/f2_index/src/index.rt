@@ -1,23 +1,17 @@
 //! The pages of a file, and what is kept of its direct nodes.
-ghost use Rattle.std.specs.Prelude.{◌≡◌, ℕ, ◌+◌, ◌<◌, ◌≤◌, ◌^◌, None, Some, IsSome, IfSome, IfNone, OnSome, OnOk, OnErr, IfOk};
+ghost use Rattle.std.specs.Prelude.{◌≡◌, ℕ, ◌+◌, ◌<◌, ◌≤◌, ◌^◌, None, Some, IsSome, IsTrue, IfSome, IfNone, OnSome, OnOk, OnErr, IfOk};
 ghost use Rattle.std.specs.List.Sorted.{IsStrictlyIncreasing};
 ghost use Rattle.std.specs.FinMap as map;
 ghost use Rattle.std.specs.FinSet as set;
 ghost use Rattle.f2_format.specs.Offsets as format;
-ghost use Rattle.f2_index.specs.Paged.{with_address, IsCut};
+ghost use Rattle.f2_index.specs.Paged.{nodes_of_pages, with_address, IsCut};
 ghost use Rattle.f2_index.specs.Nodes.{counted, with_pages, without_page};
 
+use crate::nodes::NodeTable;
 use crate::table::Table;
 use f2_shape::direct_of;
 use std::alloc::{AllocError, Global};
 use std::marker::Model;
-
-/// What is kept of a direct node that has a page: how many it has, and whether it is dirty.
-#[derive(Clone, Copy)]
-struct Node {
-    pages: u32,
-    dirty: bool,
-}
 
 /// The pages of a file with their addresses, and which of its direct nodes are dirty.
 ///
@@ -25,8 +19,7 @@ struct Node {
 #[derive(Drop)]
 pub struct Index {
     pages: Table<u32>,
-    nodes: Table<Node>,
-    alloc: Global,
+    nodes: NodeTable,
 }
 
 impl Model for Index {
@@ -50,8 +43,7 @@ impl Index {
     {
         Index {
             pages: Table::new(alloc),
-            nodes: Table::new(alloc),
-            alloc,
+            nodes: NodeTable::new(alloc),
         }
     }
 
@@ -104,42 +96,27 @@ impl Index {
         Some(page)
     }
 
-    /// The offsets of the dirty direct nodes, rising.
+    /// The offsets of the dirty direct nodes, rising. It looks at the dirty ones alone.
     pub fn dirty_nodes(&self) -> Result<Vec<u32>, AllocError>
         ensures dirty { IfOk result (λ offsets. set.from_list offsets.items ≡ self.now.dirty) }
         ensures rising { IfOk result (λ offsets. IsStrictlyIncreasing offsets.items) }
+        ensures needed { IsTrue (set.is_subset self.now.dirty (nodes_of_pages self.now.pages)) }
     {
-        let mut offsets = Vec::new(self.alloc);
-        for &offset in self.nodes.keys() {
-            if let Some(node) = self.nodes.get(offset)
-                && node.dirty
-            {
-                offsets.push(offset)?;
-            }
-        }
-        Ok(offsets)
+        self.nodes.dirty()
     }
 
     /// Makes a direct node clean.
     pub fn clean(&mut self, offset: u32)
         ensures { self.new ≡ record self.old { dirty = set.remove self.old.dirty offset } }
     {
-        if let Some(node) = self.nodes.get(offset) {
-            self.nodes.replace(
-                offset,
-                Node {
-                    dirty: false,
-                    ..node
-                },
-            );
-        }
+        self.nodes.clean(offset);
     }
 }
 
 /// Counts a new page for its direct node, and sets its address.
 fn add_page(
     pages: &mut Table<u32>,
-    nodes: &mut Table<Node>,
+    nodes: &mut NodeTable,
     page: u32,
     at: u32,
 ) -> Result<(), AllocError>
@@ -155,22 +132,10 @@ fn add_page(
     };
     if let Some(node) = nodes.get(offset) {
         pages.insert(page, at)?;
-        nodes.replace(
-            offset,
-            Node {
-                pages: node.pages + 1,
-                dirty: true,
-            },
-        );
+        nodes.set_dirty(offset, node.pages + 1);
         return Ok(());
     }
-    nodes.insert(
-        offset,
-        Node {
-            pages: 1,
-            dirty: true,
-        },
-    )?;
+    nodes.insert(offset)?;
     let done = pages.insert(page, at);
     if done.is_err() {
         nodes.remove(offset);
@@ -179,36 +144,24 @@ fn add_page(
 }
 
 /// Makes the direct node of a page dirty, where it has one.
-fn touch(nodes: &mut Table<Node>, page: u32)
+fn touch(nodes: &mut NodeTable, page: u32)
     requires { (offset : ℕ) → format.direct_of page ≡ Some offset → IsSome (map.get nodes.old offset) }
     ensures { nodes.new ≡ with_pages nodes.old (format.direct_of page) 0 }
 {
     if let Some(offset) = direct_of(u64::from(page))
         && let Some(node) = nodes.get(offset)
     {
-        nodes.replace(
-            offset,
-            Node {
-                dirty: true,
-                ..node
-            },
-        );
+        nodes.set_dirty(offset, node.pages);
     }
 }
 
 /// Counts a page less for its direct node, where it has one: the node is dirty, or gone with its last page.
-fn drop_page(nodes: &mut Table<Node>, page: u32)
+fn drop_page(nodes: &mut NodeTable, page: u32)
     ensures { nodes.new ≡ without_page nodes.old (format.direct_of page) }
 {
     if let Some(offset) = direct_of(u64::from(page)) {
         match nodes.get(offset) {
-            Some(node) if node.pages > 1 => nodes.replace(
-                offset,
-                Node {
-                    pages: node.pages - 1,
-                    dirty: true,
-                },
-            ),
+            Some(node) if node.pages > 1 => nodes.set_dirty(offset, node.pages - 1),
             _ => nodes.remove(offset),
         }
     }

@@ -1,12 +1,12 @@
 //! A map from numbers to values, in the order of the numbers.
-ghost use Rattle.std.specs.Prelude.{◌≡◌, ℕ, ◌<◌, ◌≤◌, true, None, IsSome, IfSome, IfNone, OnOk, OnErr, is_some};
+ghost use Rattle.std.specs.Prelude.{◌≡◌, ℕ, ◌<◌, ◌≤◌, ◌^◌, true, None, IsSome, IfSome, IfNone, OnOk, OnErr, is_some};
 ghost use Rattle.std.specs.Ordering.{nat_cmp};
 ghost use Rattle.std.specs.FinMap as map;
 ghost use Rattle.std.specs.Coded.{coded_ℕ};
 ghost use Rattle.f2_index.specs.Tables.{IsLastFrom};
 
 use std::alloc::{AllocError, Global};
-use std::collections::{BTreeMap, btree_map};
+use std::collections::BTreeMap;
 use std::marker::Model;
 
 #[derive(Drop)]
@@ -63,11 +63,12 @@ impl<V: Copy> Table<V> {
         self.entries.remove(&key);
     }
 
-    /// The keys, rising.
-    pub fn keys(&self) -> btree_map::Keys<'_, u32, V>
-        ensures { result ≡ map.keys self.now }
+    /// How many keys there are.
+    pub fn len(&self) -> usize
+        ensures len { result ≡ map.len self.now }
+        ensures small { result < 2 ^ 63 }
     {
-        self.entries.keys()
+        self.entries.len()
     }
 
     /// Removes the greatest key, where one from `from` on is there, and returns it.
