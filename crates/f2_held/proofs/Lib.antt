@@ -1,0 +1,9 @@
+pub mod FirstPages
+pub mod MapSums
+pub mod NameLemmas
+pub mod Lists
+pub mod RowLists
+pub mod Packed
+pub mod Recovering
+pub mod Counting
+pub mod Coming
