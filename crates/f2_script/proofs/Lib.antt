@@ -1,8 +1,13 @@
+pub mod Growth
 pub mod CutLemmas
 pub mod Decimals
 pub mod LineTexts
 pub mod PathLemmas
+pub mod WordLemmas
+pub mod VerbLemmas
+pub mod RequestLemmas
 pub mod LineKinds
+pub mod Spellings
 pub mod Reading
 pub mod ScriptLaws
 pub mod TreeLines

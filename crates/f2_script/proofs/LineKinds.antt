@@ -1,188 +1,190 @@
--- The kinds of line, and what a text that begins with a word can be.
-use Rattle.std.proofs.Common.{◌≡◌, ◌≢◌, ℕ, ◌^◌, ◌<◌, ◌≤◌, List, ◌∷◌, ◌++◌, refl, sym, ◌∙◌, ap, subst, arith, codes, decimal, None, eqb, not, IsTrue}
-use Rattle.std.proofs.lemmas.Bool.{eqb-false}
-use Rattle.std.proofs.lemmas.Fmt.{decimal_injective}
+-- What the words of a line can be.
+use Rattle.std.proofs.Common.{◌≡◌, ◌≢◌, ℕ, ◌^◌, ◌<◌, Bool, true, false, eqb, List, [], ◌∷◌, length, refl, sym, ◌∙◌, ap, subst, arith, codes, None, Some, Option, Result, Ok, Err, IfOk, inl, inr, if◌then◌else◌}
+use Rattle.std.specs.Prelude.{◌↔◌}
+use Rattle.std.proofs.lemmas.Bool.{false≢true}
+use Rattle.std.specs.List.{onto_first}
+use Rattle.f2_model.specs.declared.histories.CallKind.{CallKind}
+use Rattle.f2_model.specs.declared.histories.CallKind.TheVariants as call_kind
 use Rattle.f2_model.specs.declared.requests.Request.{Request}
-use Rattle.f2_model.specs.declared.requests.Request.TheVariants.{Create, Mkdir, Write, Truncate, Unlink, Rmdir, Rename, Read, List as ListNames, Fsync, Sync}
+use Rattle.f2_model.specs.declared.requests.Request.TheVariants as request
+use Rattle.std.specs.Str.{bytes_eq}
+use Rattle.std.proofs.lemmas.List.Splits.{length-slice_split}
 use Rattle.f2_script.specs.declared.script.Line.{Line}
-use Rattle.f2_script.specs.declared.script.Line.TheVariants.{Mkfs, Call, Tree}
-use Rattle.f2_script.specs.Cuts.{Lacks, IsCutAt, Finds}
-use Rattle.f2_script.specs.Text.{path_text}
-use Rattle.f2_script.specs.Lines.{request_text}
-use Rattle.f2_script.specs.Grammar.{IsPath, IsRequest, IsRequestText, IsLine}
-use Rattle.f2_script.proofs.CutLemmas.{one_cut, no_lack}
-use Rattle.f2_script.proofs.Decimals.{decimal_lacks}
-use Rattle.f2_script.proofs.PathLemmas.{one_path, not_false}
+use Rattle.f2_script.specs.declared.script.Line.TheVariants as line
+use Rattle.f2_script.specs.declared.verbs.Verb.{Verb}
+use Rattle.f2_script.specs.declared.verbs.Verb.TheVariants as verb
+use Rattle.f2_script.specs.Cuts.{Finds}
+use Rattle.f2_script.specs.Words.{Said, Number, AreWords, split_words}
+use Rattle.f2_script.specs.Lines.{Number32, Number64, Seat, kind_word, request_words}
+use Rattle.f2_script.specs.Verbs.{verb_word}
+use Rattle.f2_script.specs.Grammar.{IsInLimits, IsLong, IsSaid, SaysNothing, IsLine}
+use Rattle.f2_script.proofs.WordLemmas.{one_number}
+use Rattle.f2_script.proofs.RequestLemmas.{one_request}
+use Rattle.f2_script.proofs.VerbLemmas.{verb_parts, no_verb, no_such_verb}
 
--- a call that a line can hold is a create of a path
-pub record IsCreate (text : List ℕ) (request : Request) : Type 0 where
-  pub path : List (List ℕ)
-  pub is : request ≡ Create path
-  pub good : IsPath path
-  pub whole : text ≡ codes "create " ++ path_text path
+-- what a test denies
+pub not_when : {P : Type 0} (r : Bool) → (r ≡ true) ↔ P → r ≡ false → ¬ P
+not_when r iff failed p = false≢true (sym failed ∙ iff.1 p)
 
-pub create_parts : (text : List ℕ) (request : Request) → IsRequestText text request → IsCreate text request
-create_parts text (Create path) h = record { path = path; is = refl; good = h.0; whole = h.1 }
-create_parts text (Mkdir path) h = absurd h.0
-create_parts text (Write path pieces) h = absurd h.0
-create_parts text (Truncate path size) h = absurd h.0
-create_parts text (Unlink path) h = absurd h.0
-create_parts text (Rmdir path) h = absurd h.0
-create_parts text (Rename from to) h = absurd h.0
-create_parts text (Read path off len) h = absurd h.0
-create_parts text (ListNames path) h = absurd h.0
-create_parts text (Fsync path) h = absurd h.0
-create_parts text Sync h = absurd h.0
+-- words that aren't one number are no line of one number
+pub go_none : (texts : List (List ℕ)) → ((n : ℕ) → ¬ (AreWords (Seat n ∷ []) texts)) → (one : Line) → ¬ (IsSaid (codes "go" ∷ texts) one)
+go_none texts none one h =
+    let p = verb_parts verb.Go texts one h in
+    let k : IsSaid (codes "go" ∷ texts) (line.Go p.0) = subst (IsSaid (codes "go" ∷ texts)) p.1 h in
+    none p.0 k.1.1
 
-pub one_request : (text : List ℕ) (a b : Request) → IsRequestText text a → IsRequestText text b → a ≡ b
-one_request text a b h k =
-    let p = create_parts text a h in
-    let q = create_parts text b k in
-    let e : codes "create " ++ path_text p.path ≡ codes "create " ++ path_text q.path = sym p.whole ∙ q.whole in
-    let f : path_text p.path ≡ path_text q.path = cc in
-    let same : p.path ≡ q.path = one_path (path_text p.path) p.path q.path (p.good, refl) (q.good, f) in
-    p.is ∙ ap Create same ∙ sym q.is
+pub end_none : (texts : List (List ℕ)) → ((n : ℕ) → ¬ (AreWords (Seat n ∷ []) texts)) → (one : Line) → ¬ (IsSaid (codes "end" ∷ texts) one)
+end_none texts none one h =
+    let p = verb_parts verb.End texts one h in
+    let k : IsSaid (codes "end" ∷ texts) (line.End p.0) = subst (IsSaid (codes "end" ∷ texts)) p.1 h in
+    none p.0 k.1.1
 
--- texts with different first bytes differ
-firsts_apart : (x y : ℕ) (xs ys : List ℕ) → IsTrue (not (eqb x y)) → x ∷ xs ≡ y ∷ ys → ⊥
-firsts_apart x y xs ys apart e =
-    let same : x ≡ y = cc in
-    eqb-false x y (not_false (eqb x y) apart) same
+pub crash_none : (texts : List (List ℕ)) → ((n : ℕ) → ¬ (AreWords (Number64 n ∷ []) texts)) → (one : Line) → ¬ (IsSaid (codes "crash" ∷ texts) one)
+crash_none texts none one h =
+    let p = verb_parts verb.Crash texts one h in
+    let k : IsSaid (codes "crash" ∷ texts) (line.Crash p.0) = subst (IsSaid (codes "crash" ∷ texts)) p.1 h in
+    none p.0 k.1.1
 
--- what a `mkfs` line is
-pub record IsMkfs (words : List ℕ) (line : Line) : Type 0 where
-  pub blocks : ℕ
-  pub nat : ℕ
-  pub is : line ≡ Mkfs blocks nat
-  pub blocks_fit : blocks < 2 ^ 32
-  pub nat_fits : nat < 2 ^ 32
-  pub whole : words ≡ decimal blocks ++ 32 ∷ decimal nat
+pub stop_none : (texts : List (List ℕ)) → ((n : ℕ) → ¬ (AreWords (Number32 n ∷ []) texts)) → (one : Line) → ¬ (IsSaid (codes "stop" ∷ texts) one)
+stop_none texts none one h =
+    let p = verb_parts verb.Stop texts one h in
+    let k : IsSaid (codes "stop" ∷ texts) (line.Stop p.0) = subst (IsSaid (codes "stop" ∷ texts)) p.1 h in
+    none p.0 k.1.1
 
-pub mkfs_parts : (words : List ℕ) (line : Line) → IsLine (codes "mkfs " ++ words) line → IsMkfs words line
-mkfs_parts words (Mkfs blocks nat) h =
-    let e = h.1 in
-    record { blocks = blocks; nat = nat; is = refl; blocks_fit = h.0.0; nat_fits = h.0.1; whole = cc }
-mkfs_parts words (Call seat request) h = absurd (firsts_apart 109 99 _ _ refl h.1)
-mkfs_parts words Tree h = absurd (firsts_apart 109 116 _ _ refl h.1)
+line_none : (text word : List ℕ) (texts : List (List ℕ)) (one : Line) → split_words text ≡ word ∷ texts → ¬ (SaysNothing text) → IsLine text one → (IsSaid (word ∷ texts) one → ⊥) → ⊥
+line_none text word texts one split some (inl h) none = some h.0
+line_none text word texts one split some (inr h) none = none (rw split at h)
 
--- what a `call` line is
-pub record IsCall (words : List ℕ) (line : Line) : Type 0 where
-  pub seat : ℕ
-  pub request : Request
-  pub is : line ≡ Call seat request
-  pub low : 1 ≤ seat
-  pub high : seat ≤ 8
-  pub good : IsRequest request
-  pub whole : words ≡ decimal seat ++ 32 ∷ request_text request
+-- a word that is no verb begins no line
+pub line_no_verb : (text word : List ℕ) (texts : List (List ℕ)) → split_words text ≡ word ∷ texts → ¬ (SaysNothing text) → ((v : Verb) → word ≢ verb_word v) → (one : Line) → ¬ (IsLine text one)
+line_no_verb text word texts split some none one h = line_none text word texts one split some h (no_verb word texts none one)
 
-pub call_parts : (words : List ℕ) (line : Line) → IsLine (codes "call " ++ words) line → IsCall words line
-call_parts words (Call seat request) h =
-    let e = h.1 in
-    record { seat = seat; request = request; is = refl; low = h.0.0; high = h.0.1; good = h.0.2; whole = cc }
-call_parts words (Mkfs blocks nat) h = absurd (firsts_apart 99 109 _ _ refl h.1)
-call_parts words Tree h = absurd (firsts_apart 99 116 _ _ refl h.1)
+-- a reader of words reads the line that has them
+pub line_read : {E : Type 0} (r : Result (Option Line) E) (text word : List ℕ) (texts : List (List ℕ)) (v : Verb)
+    → split_words text ≡ word ∷ texts → word ≡ verb_word v → ¬ (SaysNothing text) → IfOk r (Finds (IsSaid (verb_word v ∷ texts))) → IfOk r (Finds (IsLine text))
+line_read (Err e) text word texts v split known some h = tt
+line_read (Ok (Some one)) text word texts v split known some h = inr (rw (split, known) h)
+line_read (Ok None) text word texts v split known some h = λ one k. line_none text word texts one split some k (λ said. h one (rw known at said))
 
--- a `mkfs` line is cut between its numbers
-pub mkfs_cut : (words : List ℕ) (line : Line) (before after : List ℕ) (m : IsMkfs words line) → IsCutAt 32 words before after → (decimal m.blocks ≡ before) × (decimal m.nat ≡ after)
-mkfs_cut words line before after m cut =
-    one_cut 32 (decimal m.blocks) before (decimal m.nat) after
-    (decimal_lacks 32 m.blocks (omega arith) (let b = m.blocks_fit in omega arith)) cut.first (sym m.whole ∙ cut.whole)
+-- words of one number, and of two, are the words of those numbers alone
+one_same : (least most a b : ℕ) (texts : List (List ℕ)) → most < 2 ^ 64 → AreWords (Number least most a ∷ []) texts → AreWords (Number least most b ∷ []) texts → a ≡ b
+one_same least most a b [] small h k = absurd h
+one_same least most a b (text ∷ texts) small h k = one_number least most a b text small h.0 k.0
 
-pub mkfs_no_cut : (words : List ℕ) → Lacks 32 words → (line : Line) → ¬ (IsLine (codes "mkfs " ++ words) line)
-mkfs_no_cut words lacks line h =
-    let m = mkfs_parts words line h in
-    no_lack 32 (decimal m.blocks) (decimal m.nat) (subst (Lacks 32) m.whole lacks)
+two_same : (low high least most a b c d : ℕ) (texts : List (List ℕ)) → high < 2 ^ 64 → most < 2 ^ 64
+    → AreWords (Number low high a ∷ Number least most c ∷ []) texts → AreWords (Number low high b ∷ Number least most d ∷ []) texts → (a ≡ b) × (c ≡ d)
+two_same low high least most a b c d [] small less h k = absurd h
+two_same low high least most a b c d (text ∷ texts) small less h k = (one_number low high a b text small h.0 k.0, one_same least most c d texts less h.1 k.1)
 
-pub mkfs_no_blocks : (words before after : List ℕ) → IsCutAt 32 words before after → Finds (λ n. (n ≤ 4294967295) × (before ≡ decimal n)) None → (line : Line) → ¬ (IsLine (codes "mkfs " ++ words) line)
-mkfs_no_blocks words before after cut none line h =
-    let m = mkfs_parts words line h in
-    let s = mkfs_cut words line before after m cut in
-    let b = m.blocks_fit in
-    none m.blocks (omega arith, sym s.0)
+-- words of a seat and a call
+call_same : (a b : ℕ) (p q : Request) (texts : List (List ℕ)) → IsInLimits p → IsInLimits q → AreWords (Seat a ∷ request_words p) texts → AreWords (Seat b ∷ request_words q) texts → (a ≡ b) × (p ≡ q)
+call_same a b p q [] small less h k = absurd h
+call_same a b p q (text ∷ texts) small less h k = (one_number 1 8 a b text (omega arith) h.0 k.0, one_request texts p q (small, h.1) (less, k.1))
 
-pub mkfs_no_nat : (words before after : List ℕ) → IsCutAt 32 words before after → Finds (λ n. (n ≤ 4294967295) × (after ≡ decimal n)) None → (line : Line) → ¬ (IsLine (codes "mkfs " ++ words) line)
-mkfs_no_nat words before after cut none line h =
-    let m = mkfs_parts words line h in
-    let s = mkfs_cut words line before after m cut in
-    let b = m.nat_fits in
-    none m.nat (omega arith, sym s.1)
+long_small : (call : Request) → IsLong call → IsInLimits call
+long_small (request.Create path) h = absurd h
+long_small (request.Mkdir path) h = absurd h
+long_small (request.Write path pieces) h = absurd h
+long_small (request.Truncate path size) h = absurd h
+long_small (request.Unlink path) h = absurd h
+long_small (request.Rmdir path) h = absurd h
+long_small (request.Rename from to) h = absurd h
+long_small (request.Read path off len) h = absurd h
+long_small (request.List path) h = absurd h
+long_small (request.Fsync path) h = tt
+long_small request.Sync h = tt
 
--- a `call` line is cut behind its seat
-pub call_cut : (words : List ℕ) (line : Line) (before after : List ℕ) (m : IsCall words line) → IsCutAt 32 words before after → (decimal m.seat ≡ before) × (request_text m.request ≡ after)
-call_cut words line before after m cut =
-    one_cut 32 (decimal m.seat) before (request_text m.request) after
-    (decimal_lacks 32 m.seat (omega arith) (let b = m.high in omega arith)) cut.first (sym m.whole ∙ cut.whole)
+abbrev kind_at : List ℕ → Option CallKind
+kind_at word =
+    if bytes_eq word (codes "read") then Some call_kind.Read else
+    if bytes_eq word (codes "write") then Some call_kind.Write else
+    if bytes_eq word (codes "flush") then Some call_kind.Flush else
+    None
 
-pub call_no_cut : (words : List ℕ) → Lacks 32 words → (line : Line) → ¬ (IsLine (codes "call " ++ words) line)
-call_no_cut words lacks line h =
-    let m = call_parts words line h in
-    no_lack 32 (decimal m.seat) (request_text m.request) (subst (Lacks 32) m.whole lacks)
+kind_known : (kind : CallKind) → kind_at (kind_word kind) ≡ Some kind
+kind_known call_kind.Read = refl
+kind_known call_kind.Write = refl
+kind_known call_kind.Flush = refl
 
-pub call_no_seat : (words before after : List ℕ) → IsCutAt 32 words before after → Finds (λ n. (n ≤ 8) × (before ≡ decimal n)) None → (line : Line) → ¬ (IsLine (codes "call " ++ words) line)
-call_no_seat words before after cut none line h =
-    let m = call_parts words line h in
-    let s = call_cut words line before after m cut in
-    none m.seat (m.high, sym s.0)
+-- words of a kind and a number
+fail_same : (k l : CallKind) (a b : ℕ) (texts : List (List ℕ)) → AreWords (Said (kind_word k) ∷ Number 1 4294967295 a ∷ []) texts → AreWords (Said (kind_word l) ∷ Number 1 4294967295 b ∷ []) texts → (k ≡ l) × (a ≡ b)
+fail_same k l a b [] h i = absurd h
+fail_same k l a b (text ∷ texts) h i =
+    let e : Some k ≡ Some l = sym (kind_known k) ∙ ap kind_at (sym h.0 ∙ i.0) ∙ kind_known l in
+    (cc, one_same 1 4294967295 a b texts (omega arith) h.1 i.1)
 
-pub call_seat_zero : (words before after : List ℕ) (n : ℕ) → IsCutAt 32 words before after → before ≡ decimal n → n ≡ 0 → (line : Line) → ¬ (IsLine (codes "call " ++ words) line)
-call_seat_zero words before after n cut e zero_seat line h =
-    let m = call_parts words line h in
-    let s = call_cut words line before after m cut in
-    let high = m.high in
-    let low = m.low in
-    let same : m.seat ≡ n = decimal_injective m.seat n (omega arith) (omega arith) (s.0 ∙ e) in
-    omega arith
+-- words are one line at most
+one_said : (word : List ℕ) (texts : List (List ℕ)) (a b : Line) → IsSaid (word ∷ texts) a → IsSaid (word ∷ texts) b → a ≡ b
+one_said word texts line.Skipped b h k = absurd h.1
+one_said word texts (line.Mkfs x y) b h k =
+    let p = verb_parts verb.Mkfs texts b (subst (λ w. IsSaid (w ∷ texts) b) h.1.0 k) in
+    let l : IsSaid (word ∷ texts) (line.Mkfs p.0 p.1) = subst (IsSaid (word ∷ texts)) p.2 k in
+    let s = two_same 0 4294967295 0 4294967295 x p.0 y p.1 texts (omega arith) (omega arith) h.1.1 l.1.1 in
+    ap (λ n. line.Mkfs n y) s.0 ∙ ap (λ n. line.Mkfs p.0 n) s.1 ∙ sym p.2
+one_said word texts (line.Gen x y) b h k =
+    let p = verb_parts verb.Gen texts b (subst (λ w. IsSaid (w ∷ texts) b) h.1.0 k) in
+    let l : IsSaid (word ∷ texts) (line.Gen p.0 p.1) = subst (IsSaid (word ∷ texts)) p.2 k in
+    let s = two_same 0 18446744073709551615 0 50000 x p.0 y p.1 texts (omega arith) (omega arith) h.1.1 l.1.1 in
+    ap (λ n. line.Gen n y) s.0 ∙ ap (λ n. line.Gen p.0 n) s.1 ∙ sym p.2
+one_said word texts (line.Go x) b h k =
+    let p = verb_parts verb.Go texts b (subst (λ w. IsSaid (w ∷ texts) b) h.1.0 k) in
+    let l : IsSaid (word ∷ texts) (line.Go p.0) = subst (IsSaid (word ∷ texts)) p.1 k in
+    ap line.Go (one_same 1 8 x p.0 texts (omega arith) h.1.1 l.1.1) ∙ sym p.1
+one_said word texts (line.End x) b h k =
+    let p = verb_parts verb.End texts b (subst (λ w. IsSaid (w ∷ texts) b) h.1.0 k) in
+    let l : IsSaid (word ∷ texts) (line.End p.0) = subst (IsSaid (word ∷ texts)) p.1 k in
+    ap line.End (one_same 1 8 x p.0 texts (omega arith) h.1.1 l.1.1) ∙ sym p.1
+one_said word texts (line.Crash x) b h k =
+    let p = verb_parts verb.Crash texts b (subst (λ w. IsSaid (w ∷ texts) b) h.1.0 k) in
+    let l : IsSaid (word ∷ texts) (line.Crash p.0) = subst (IsSaid (word ∷ texts)) p.1 k in
+    ap line.Crash (one_same 0 18446744073709551615 x p.0 texts (omega arith) h.1.1 l.1.1) ∙ sym p.1
+one_said word texts (line.Stop x) b h k =
+    let p = verb_parts verb.Stop texts b (subst (λ w. IsSaid (w ∷ texts) b) h.1.0 k) in
+    let l : IsSaid (word ∷ texts) (line.Stop p.0) = subst (IsSaid (word ∷ texts)) p.1 k in
+    ap line.Stop (one_same 0 4294967295 x p.0 texts (omega arith) h.1.1 l.1.1) ∙ sym p.1
+one_said word texts (line.Call x y) b h k =
+    let p = verb_parts verb.Call texts b (subst (λ w. IsSaid (w ∷ texts) b) h.1.0 k) in
+    let l : IsSaid (word ∷ texts) (line.Call p.0 p.1) = subst (IsSaid (word ∷ texts)) p.2 k in
+    let s = call_same x p.0 y p.1 texts h.0 l.0 h.1.1 l.1.1 in
+    ap (λ n. line.Call n y) s.0 ∙ ap (λ q. line.Call p.0 q) s.1 ∙ sym p.2
+one_said word texts (line.Begin x y) b h k =
+    let p = verb_parts verb.Begin texts b (subst (λ w. IsSaid (w ∷ texts) b) h.1.0 k) in
+    let l : IsSaid (word ∷ texts) (line.Begin p.0 p.1) = subst (IsSaid (word ∷ texts)) p.2 k in
+    let s = call_same x p.0 y p.1 texts (long_small y h.0) (long_small p.1 l.0) h.1.1 l.1.1 in
+    ap (λ n. line.Begin n y) s.0 ∙ ap (λ q. line.Begin p.0 q) s.1 ∙ sym p.2
+one_said word texts (line.Fail x y) b h k =
+    let p = verb_parts verb.Fail texts b (subst (λ w. IsSaid (w ∷ texts) b) h.1.0 k) in
+    let l : IsSaid (word ∷ texts) (line.Fail p.0 p.1) = subst (IsSaid (word ∷ texts)) p.2 k in
+    let s = fail_same x p.0 y p.1 texts h.1.1 l.1.1 in
+    ap (λ q. line.Fail q y) s.0 ∙ ap (λ n. line.Fail p.0 n) s.1 ∙ sym p.2
+one_said word texts line.Tick b h k = sym (verb_parts verb.Tick texts b (subst (λ w. IsSaid (w ∷ texts) b) h.1.0 k))
+one_said word texts line.Mount b h k = sym (verb_parts verb.Mount texts b (subst (λ w. IsSaid (w ∷ texts) b) h.1.0 k))
+one_said word texts line.Unmount b h k = sym (verb_parts verb.Unmount texts b (subst (λ w. IsSaid (w ∷ texts) b) h.1.0 k))
+one_said word texts line.Tree b h k = sym (verb_parts verb.Tree texts b (subst (λ w. IsSaid (w ∷ texts) b) h.1.0 k))
 
-pub call_no_request : (words before after : List ℕ) → IsCutAt 32 words before after → Finds (IsRequestText after) None → (line : Line) → ¬ (IsLine (codes "call " ++ words) line)
-call_no_request words before after cut none line h =
-    let m = call_parts words line h in
-    let s = call_cut words line before after m cut in
-    none m.request (m.good, sym s.1)
+-- a line that says nothing has no verb
+first_nothing : (texts : List (List ℕ)) (one : Line) → ¬ (IsSaid (onto_first 35 texts) one)
+first_nothing [] one h = no_verb (35 ∷ []) [] (no_such_verb (35 ∷ []) refl) one h
+first_nothing (text ∷ texts) one h = no_verb (35 ∷ text) texts (no_such_verb (35 ∷ text) refl) one h
 
-pub call_is : (words before after : List ℕ) (n : ℕ) (request : Request) → IsCutAt 32 words before after → 1 ≤ n → n ≤ 8 → before ≡ decimal n → IsRequestText after request → IsLine (codes "call " ++ words) (Call n request)
-call_is words before after n request cut low high e r =
-    ((low, high, r.0), ap (λ t. codes "call " ++ t) (cut.whole ∙ rw (e, r.1) refl))
+nothing_said : (text : List ℕ) (one : Line) → SaysNothing text → ¬ (IsSaid (split_words text) one)
+nothing_said [] one nothing h = no_verb [] [] (no_such_verb [] refl) one h
+nothing_said (b ∷ text) one nothing h =
+    let k : IsSaid (split_words (35 ∷ text)) one = subst (λ c. IsSaid (split_words (c ∷ text)) one) nothing h in
+    first_nothing (split_words text) one k
 
--- a text with none of the first words is no line
-pub no_line : (text : List ℕ) → text ≢ codes "tree" → ((rest : List ℕ) → text ≢ codes "mkfs " ++ rest) → ((rest : List ℕ) → text ≢ codes "call " ++ rest) → (line : Line) → ¬ (IsLine text line)
-no_line text t m c (Mkfs blocks nat) h = m (decimal blocks ++ 32 ∷ decimal nat) h.1
-no_line text t m c (Call seat request) h = c (decimal seat ++ 32 ∷ request_text request) h.1
-no_line text t m c Tree h = t h.1
+some_parts : (texts : List (List ℕ)) → 0 < length texts → (word : List ℕ) × (rest : List (List ℕ)) × (texts ≡ word ∷ rest)
+some_parts [] some = absurd (omega arith)
+some_parts (word ∷ texts) some = (word, texts, refl)
 
-mkfs_same : (words : List ℕ) (a b : Line) → IsMkfs words a → IsMkfs words b → a ≡ b
-mkfs_same words a b m n =
-    let cut : IsCutAt 32 words (decimal n.blocks) (decimal n.nat) = record { whole = n.whole; first = decimal_lacks 32 n.blocks (omega arith) (let f = n.blocks_fit in omega arith) } in
-    let s = mkfs_cut words a (decimal n.blocks) (decimal n.nat) m cut in
-    let f = m.blocks_fit in
-    let g = n.blocks_fit in
-    let u = m.nat_fits in
-    let v = n.nat_fits in
-    let x : m.blocks ≡ n.blocks = decimal_injective m.blocks n.blocks (omega arith) (omega arith) s.0 in
-    let y : m.nat ≡ n.nat = decimal_injective m.nat n.nat (omega arith) (omega arith) s.1 in
-    m.is ∙ rw (x, y) (sym n.is)
-
-call_same : (words : List ℕ) (a b : Line) → IsCall words a → IsCall words b → a ≡ b
-call_same words a b m n =
-    let cut : IsCutAt 32 words (decimal n.seat) (request_text n.request) = record { whole = n.whole; first = decimal_lacks 32 n.seat (omega arith) (let f = n.high in omega arith) } in
-    let s = call_cut words a (decimal n.seat) (request_text n.request) m cut in
-    let f = m.high in
-    let g = n.high in
-    let x : m.seat ≡ n.seat = decimal_injective m.seat n.seat (omega arith) (omega arith) s.0 in
-    let y : m.request ≡ n.request = one_request (request_text n.request) m.request n.request (m.good, sym s.1) (n.good, refl) in
-    m.is ∙ rw (x, y) (sym n.is)
+pub some_words : (text : List ℕ) → (word : List ℕ) × (texts : List (List ℕ)) × (split_words text ≡ word ∷ texts)
+some_words text = some_parts (split_words text) (omega (arith, length-slice_split (λ b. eqb b 32) text))
 
 -- a text is one line at most
 pub one_line : (text : List ℕ) (a b : Line) → IsLine text a → IsLine text b → a ≡ b
-one_line text (Mkfs blocks nat) b h k =
-    let words = decimal blocks ++ 32 ∷ decimal nat in
-    let own : IsLine (codes "mkfs " ++ words) (Mkfs blocks nat) = (h.0, refl) in
-    let other : IsLine (codes "mkfs " ++ words) b = (k.0, sym h.1 ∙ k.1) in
-    mkfs_same words (Mkfs blocks nat) b (mkfs_parts words (Mkfs blocks nat) own) (mkfs_parts words b other)
-one_line text (Call seat request) b h k =
-    let words = decimal seat ++ 32 ∷ request_text request in
-    let own : IsLine (codes "call " ++ words) (Call seat request) = (h.0, refl) in
-    let other : IsLine (codes "call " ++ words) b = (k.0, sym h.1 ∙ k.1) in
-    call_same words (Call seat request) b (call_parts words (Call seat request) own) (call_parts words b other)
-one_line text Tree (Mkfs blocks nat) h k = absurd (firsts_apart 116 109 _ _ refl (sym h.1 ∙ k.1))
-one_line text Tree (Call seat request) h k = absurd (firsts_apart 116 99 _ _ refl (sym h.1 ∙ k.1))
-one_line text Tree Tree h k = refl
+one_line text a b (inl h) (inl k) = h.1 ∙ sym k.1
+one_line text a b (inl h) (inr k) = absurd (nothing_said text b h.0 k)
+one_line text a b (inr h) (inl k) = absurd (nothing_said text a k.0 h)
+one_line text a b (inr h) (inr k) =
+    let s = some_words text in
+    one_said s.0 s.1 a b (subst (λ t. IsSaid t a) s.2 h) (subst (λ t. IsSaid t b) s.2 k)

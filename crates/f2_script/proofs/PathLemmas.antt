@@ -1,175 +1,163 @@
 -- Paths and their texts.
-use Rattle.std.proofs.Common.{◌≡◌, ◌≢◌, ℕ, ◌<◌, Bool, true, false, eqb, not, ◌&&◌, ◌||◌, List, [], ◌∷◌, ◌++◌, length, map, refl, sym, ◌∙◌, ap, arith, append_assoc}
+use Rattle.std.proofs.Common.{◌≡◌, ◌≢◌, ℕ, ◌/◌, ◌%◌, ◌<◌, true, false, eqb, List, [], ◌∷◌, ◌++◌, length, refl, sym, ◌∙◌, ap, subst, arith, inl, inr, Result, Ok, Err, Option, Some, None, IfOk}
 use Rattle.std.proofs.lemmas.Bool.{false≢true}
-use Rattle.std.specs.List.{onto_first, AllByRecursion, list_all, slice_split, join_with_byte}
-use Rattle.std.proofs.lemmas.List.Splits.{slice_split_none, slice_split_at, join_with_byte-slice_split}
+use Rattle.std.proofs.lemmas.Grind.{common_steps}
+use Rattle.std.specs.List.{AllByRecursion, slice_split}
+use Rattle.std.proofs.lemmas.List.Splits.{slice_split_none, slice_split_at}
 use Rattle.std.proofs.lemmas.List.Elements.{All-from_recursion}
 use Rattle.std.proofs.lemmas.List.{append-nil}
 use Rattle.f2_script.specs.Replies.{names_text}
-use Rattle.f2_script.specs.Cuts.{Lacks, IsCutAt}
-use Rattle.f2_script.specs.Text.{is_plain, name_text, path_text}
-use Rattle.f2_script.specs.Grammar.{IsPlainName, IsPath, IsPathText}
+use Rattle.f2_script.specs.Cuts.{Finds, Lacks, IsCutAt}
+use Rattle.f2_script.specs.Text.{is_plain, upper_digit, escape, name_text, path_text}
+use Rattle.f2_script.specs.Paths.{BeginsWith, IsNameText, AreNames, IsPathText}
+use Rattle.f2_script.proofs.Growth.{Begins}
 
--- whether a byte may stand in the text of a path
-abbrev pub in_path : ℕ → Bool
-in_path b = is_plain b || eqb b 47
+-- the digits differ
+one_digit : (d e : ℕ) → d < 16 → e < 16 → upper_digit d ≡ upper_digit e → d ≡ e
+one_digit d e low high same = grind (arith, common_steps)
 
-and_right : (s t : Bool) → (s && t) ≡ true → t ≡ true
-and_right true t e = e
-and_right false t e = cc
+one_byte : (a b : ℕ) → a < 256 → b < 256 → upper_digit (a / 16) ≡ upper_digit (b / 16) → upper_digit (a % 16) ≡ upper_digit (b % 16) → a ≡ b
+one_byte a b low high first second =
+    let x : a / 16 ≡ b / 16 = one_digit (a / 16) (b / 16) (omega arith) (omega arith) first in
+    let y : a % 16 ≡ b % 16 = one_digit (a % 16) (b % 16) (omega arith) (omega arith) second in
+    omega arith
 
-and_both : (s t : Bool) → s ≡ true → t ≡ true → (s && t) ≡ true
-and_both s t e f = rw (e, f) refl
+-- a `%` is no plain byte
+plain_no_percent : (b : ℕ) → is_plain b ≡ true → b ≡ 37 → ⊥
+plain_no_percent b h e = let f : false ≡ true = subst (λ c. is_plain c ≡ true) e h in false≢true f
 
-and_left : (s t : Bool) → (s && t) ≡ true → s ≡ true
-and_left true t e = refl
-and_left false t e = e
+-- a text begins with one byte at most
+pub one_begin : (text : List ℕ) (a b : ℕ) (x y : List ℕ) → BeginsWith text a x → BeginsWith text b y → (a ≡ b) × (x ≡ y)
+one_begin text a b x y (inl (h, e)) (inl (k, f)) =
+    let s : a ∷ x ≡ b ∷ y = sym e ∙ f in
+    (cc, cc)
+one_begin text a b x y (inl (h, e)) (inr (k, f)) =
+    let s : a ∷ x ≡ escape b ++ y = sym e ∙ f in
+    let t : a ≡ 37 = cc in
+    absurd (plain_no_percent a h t)
+one_begin text a b x y (inr (h, e)) (inl (k, f)) =
+    let s : escape a ++ x ≡ b ∷ y = sym e ∙ f in
+    let t : b ≡ 37 = cc in
+    absurd (plain_no_percent b k t)
+one_begin text a b x y (inr (h, e)) (inr (k, f)) =
+    let s : escape a ++ x ≡ escape b ++ y = sym e ∙ f in
+    let t : upper_digit (a / 16) ≡ upper_digit (b / 16) = cc in
+    let u : upper_digit (a % 16) ≡ upper_digit (b % 16) = cc in
+    (one_byte a b h k t u, cc)
 
-or_left : (s t : Bool) → s ≡ true → (s || t) ≡ true
-or_left s t e = rw e refl
+-- a text with a first byte isn't empty
+begins_some : (text : List ℕ) (b : ℕ) (rest : List ℕ) → BeginsWith text b rest → text ≡ [] → ⊥
+begins_some text b rest (inl (h, e)) f = let s : b ∷ rest ≡ [] = sym e ∙ f in cc
+begins_some text b rest (inr (h, e)) f = let s : escape b ++ rest ≡ [] = sym e ∙ f in cc
 
-or_other : (s t : Bool) → (s || t) ≡ true → t ≡ false → s ≡ true
-or_other true t e f = refl
-or_other false t e f = cc
+-- a text is one name at most
+pub one_name : (text a b : List ℕ) → IsNameText text a → IsNameText text b → a ≡ b
+one_name text [] [] h k = refl
+one_name text [] (c ∷ b) h k = absurd (begins_some text c k.0 k.1 h)
+one_name text (c ∷ a) [] h k = absurd (begins_some text c h.0 h.1 k)
+one_name text (c ∷ a) (d ∷ b) h k =
+    let s = one_begin text c d h.0 k.0 h.1 k.1 in
+    let x : c ≡ d = s.0 in
+    let y : a ≡ b = one_name h.0 a b h.2 (subst (λ t. IsNameText t b) (sym s.1) k.2) in
+    rw (x, y) refl
 
-pub not_false : (t : Bool) → not t ≡ true → t ≡ false
-not_false true e = sym e
-not_false false e = refl
+name_only : (text : List ℕ) (b : ℕ) (rest : List ℕ) → BeginsWith text b rest → (whole : List ℕ) → IsNameText text whole → (more : List ℕ) × (whole ≡ b ∷ more) × IsNameText rest more
+name_only text b rest begins [] h = absurd (begins_some text b rest begins h)
+name_only text b rest begins (c ∷ more) h =
+    let s = one_begin text c b h.0 rest h.1 begins in
+    (more, ap (λ x. x ∷ more) s.0, subst (λ t. IsNameText t more) s.1 h.2)
 
--- a plain byte is no `/`
-plain_no_slash : (b : ℕ) → is_plain b ≡ true → eqb b 47 ≡ false
-plain_no_slash b h = not_false (eqb b 47) (and_right _ _ h)
+-- the text goes on after its first byte
+pub name_begins : (text : List ℕ) (b : ℕ) (rest : List ℕ) → BeginsWith text b rest → Begins (IsNameText text) (IsNameText rest) b
+name_begins text b rest begins = record {
+  reads = λ more h. (rest, begins, h);
+  only = name_only text b rest begins;
+}
 
--- a plain name shows as itself
-name_shows : (name : List ℕ) → IsPlainName name → name_text name ≡ name
-name_shows [] h = refl
-name_shows (b ∷ name) h = rw h.0 (ap (λ t. b ∷ t) (name_shows name h.1))
+pub name_none : (text : List ℕ) → 0 < length text → ((b : ℕ) (rest : List ℕ) → ¬ (BeginsWith text b rest)) → (name : List ℕ) → ¬ (IsNameText text name)
+name_none text some none [] h = let z : length text ≡ 0 = ap length h in omega arith
+name_none text some none (b ∷ name) h = none b h.0 h.1
 
-names_show : (path : List (List ℕ)) → AllByRecursion IsPlainName path → map name_text path ≡ path
-names_show [] h = refl
-names_show (name ∷ path) h = rw (name_shows name h.0, names_show path h.1) refl
-
--- the text of a path that a line can hold
-pub path_shows : (path : List (List ℕ)) → IsPath path → path_text path ≡ 47 ∷ join_with_byte 47 path
-path_shows path h = ap (λ names. 47 ∷ join_with_byte 47 names) (names_show path h.1)
-
-lacks_slash : (name : List ℕ) → IsPlainName name → AllByRecursion (λ b. eqb b 47 ≡ false) name
-lacks_slash [] h = tt
-lacks_slash (b ∷ name) h = (plain_no_slash b h.0, lacks_slash name h.1)
-
--- the names that were joined are the parts between the slashes
-split_join : (name : List ℕ) (path : List (List ℕ)) → IsPlainName name → AllByRecursion IsPlainName path → slice_split (λ b. eqb b 47) (join_with_byte 47 (name ∷ path)) ≡ name ∷ path
-split_join name [] h k = slice_split_none (λ b. eqb b 47) name (All-from_recursion (λ b. eqb b 47 ≡ false) name (lacks_slash name h))
-split_join name (next ∷ path) h k =
-    slice_split_at (λ b. eqb b 47) name 47 (join_with_byte 47 (next ∷ path)) (All-from_recursion (λ b. eqb b 47 ≡ false) name (lacks_slash name h)) refl
-    ∙ ap (λ parts. name ∷ parts) (split_join next path k.0 k.1)
-
-not_empty : (xs : List ℕ) (y : ℕ) (ys : List ℕ) → xs ++ y ∷ ys ≡ [] → ⊥
-not_empty [] y ys e = cc
-not_empty (x ∷ xs) y ys e = cc
-
-join_empty : (path : List (List ℕ)) → path ≢ [] ∷ [] → join_with_byte 47 path ≡ [] → path ≡ []
-join_empty [] ne e = refl
-join_empty (name ∷ []) ne e = absurd (ne (ap (λ n. n ∷ []) e))
-join_empty (name ∷ next ∷ path) ne e = absurd (not_empty name 47 (join_with_byte 47 (next ∷ path)) e)
-
-same_join : (p q : List (List ℕ)) → IsPath p → IsPath q → join_with_byte 47 p ≡ join_with_byte 47 q → p ≡ q
-same_join [] q h k e = sym (join_empty q k.0 (sym e))
-same_join (name ∷ p) [] h k e = join_empty (name ∷ p) h.0 e
-same_join (name ∷ p) (other ∷ q) h k e =
-    sym (split_join name p h.1.0 h.1.1) ∙ ap (λ t. slice_split (λ b. eqb b 47) t) e ∙ split_join other q k.1.0 k.1.1
-
--- a text is one path at most
-pub one_path : (text : List ℕ) (p q : List (List ℕ)) → IsPathText text p → IsPathText text q → p ≡ q
-one_path text p q h k =
-    let e : 47 ∷ join_with_byte 47 p ≡ 47 ∷ join_with_byte 47 q = sym (path_shows p h.0) ∙ sym h.1 ∙ k.1 ∙ path_shows q k.0 in
-    let f : join_with_byte 47 p ≡ join_with_byte 47 q = cc in
-    same_join p q h.0 k.0 f
-
-in_path_name : (name : List ℕ) → IsPlainName name → list_all in_path name ≡ true
-in_path_name [] h = refl
-in_path_name (b ∷ name) h = and_both _ _ (or_left (is_plain b) (eqb b 47) h.0) (in_path_name name h.1)
-
-in_path_append : (xs ys : List ℕ) → list_all in_path xs ≡ true → list_all in_path ys ≡ true → list_all in_path (xs ++ ys) ≡ true
-in_path_append [] ys h k = k
-in_path_append (x ∷ xs) ys h k = and_both _ _ (and_left _ _ h) (in_path_append xs ys (and_right _ _ h) k)
-
-in_path_join : (path : List (List ℕ)) → AllByRecursion IsPlainName path → list_all in_path (join_with_byte 47 path) ≡ true
-in_path_join [] h = refl
-in_path_join (name ∷ []) h = in_path_name name h.0
-in_path_join (name ∷ next ∷ path) h =
-    in_path_append name (47 ∷ join_with_byte 47 (next ∷ path)) (in_path_name name h.0) (in_path_join (next ∷ path) h.1)
-
--- what follows the first `/` of a path has plain bytes and slashes alone
-pub path_bytes : (names : List ℕ) (path : List (List ℕ)) → IsPathText (47 ∷ names) path → list_all in_path names ≡ true
-path_bytes names path h =
-    let e : 47 ∷ names ≡ 47 ∷ join_with_byte 47 path = h.1 ∙ path_shows path h.0 in
-    let f : names ≡ join_with_byte 47 path = cc in
-    rw f (in_path_join path h.0.1)
-
-plain_onto : (b : ℕ) (names : List (List ℕ)) → is_plain b ≡ true → AllByRecursion IsPlainName names → AllByRecursion IsPlainName (onto_first b names)
-plain_onto b [] h k = ((h, tt), tt)
-plain_onto b (name ∷ names) h k = ((h, k.0), k.1)
-
-plain_next : (b : ℕ) (text : List ℕ) (t : Bool) → eqb b 47 ≡ t → in_path b ≡ true → AllByRecursion IsPlainName (slice_split (λ b. eqb b 47) text) → AllByRecursion IsPlainName (slice_split (λ b. eqb b 47) (b ∷ text))
-plain_next b text true e h k = rw e (tt, k)
-plain_next b text false e h k =
-    let plain : is_plain b ≡ true = or_other (is_plain b) (eqb b 47) h e in
-    rw e (plain_onto b (slice_split (λ b. eqb b 47) text) plain k)
-
--- the parts between slashes are plain names
-plain_parts : (text : List ℕ) → list_all in_path text ≡ true → AllByRecursion IsPlainName (slice_split (λ b. eqb b 47) text)
-plain_parts [] h = (tt, tt)
-plain_parts (b ∷ text) h = plain_next b text (eqb b 47) refl (and_left _ _ h) (plain_parts text (and_right _ _ h))
-
--- the parts of a text that isn't empty are a path of that text
-pub parts_are_path : (names : List ℕ) (path : List (List ℕ)) → list_all in_path names ≡ true → 0 < length names → path ≡ slice_split (λ b. eqb b 47) names → IsPathText (47 ∷ names) path
-parts_are_path names path h some e =
-    let joined : join_with_byte 47 path ≡ names = ap (λ p. join_with_byte 47 p) e ∙ join_with_byte-slice_split 47 names in
-    let plain : AllByRecursion IsPlainName path = rw e (plain_parts names h) in
-    let apart : path ≢ [] ∷ [] = λ same.
-    let none : [] ≡ names = sym (ap (λ p. join_with_byte 47 p) same) ∙ joined in
-    let zero_long : 0 ≡ length names = ap length none in
-    omega arith in
-    ((apart, plain), sym (path_shows path (apart, plain) ∙ ap (λ t. 47 ∷ t) joined))
+pub name_end : (text : List ℕ) → length text ≡ 0 → IsNameText text []
+name_end [] z = refl
+name_end (b ∷ text) z = absurd (omega arith)
 
 false_from_ne : (x byte : ℕ) → x ≢ byte → eqb x byte ≡ false
 false_from_ne x byte ne = grind arith
 
-false_in : (text : List ℕ) → Lacks 47 text → AllByRecursion (λ b. eqb b 47 ≡ false) text
-false_in [] h = tt
-false_in (b ∷ text) h = (false_from_ne b 47 h.0, false_in text h.1)
+false_in : (byte : ℕ) (text : List ℕ) → Lacks byte text → AllByRecursion (λ b. eqb b byte ≡ false) text
+false_in byte [] h = tt
+false_in byte (b ∷ text) h = (false_from_ne b byte h.0, false_in byte text h.1)
 
-pub split_cut : (text before after : List ℕ) → IsCutAt 47 text before after → slice_split (λ b. eqb b 47) text ≡ before ∷ slice_split (λ b. eqb b 47) after
-split_cut text before after cut =
-    rw cut.whole (slice_split_at (λ b. eqb b 47) before 47 after (All-from_recursion (λ b. eqb b 47 ≡ false) before (false_in before cut.first)) refl)
+-- the parts of a text that is cut at a byte, and of one that lacks it
+pub split_at : (byte : ℕ) (before after : List ℕ) → Lacks byte before → slice_split (λ b. eqb b byte) (before ++ byte ∷ after) ≡ before ∷ slice_split (λ b. eqb b byte) after
+split_at byte before after h =
+    slice_split_at (λ b. eqb b byte) before byte after (All-from_recursion (λ b. eqb b byte ≡ false) before (false_in byte before h)) (grind arith)
 
-pub split_whole : (text : List ℕ) → Lacks 47 text → slice_split (λ b. eqb b 47) text ≡ text ∷ []
-split_whole text h = slice_split_none (λ b. eqb b 47) text (All-from_recursion (λ b. eqb b 47 ≡ false) text (false_in text h))
+pub split_cut : (byte : ℕ) (text before after : List ℕ) → IsCutAt byte text before after → slice_split (λ b. eqb b byte) text ≡ before ∷ slice_split (λ b. eqb b byte) after
+split_cut byte text before after cut = rw cut.whole (split_at byte before after cut.first)
 
--- one more name of the text
-pub names_more : (path longer : List (List ℕ)) (text left name piece rest : List ℕ) → path ++ slice_split (λ b. eqb b 47) left ≡ slice_split (λ b. eqb b 47) text → IsCutAt 47 left piece rest → name ≡ piece → longer ≡ path ++ name ∷ [] → longer ++ slice_split (λ b. eqb b 47) rest ≡ slice_split (λ b. eqb b 47) text
-names_more path longer text left name piece rest so_far cut same e =
-    rw (e, same, append_assoc) (ap (λ parts. path ++ parts) (sym (split_cut left piece rest cut)) ∙ so_far)
+pub split_whole : (byte : ℕ) (text : List ℕ) → Lacks byte text → slice_split (λ b. eqb b byte) text ≡ text ∷ []
+split_whole byte text h = slice_split_none (λ b. eqb b byte) text (All-from_recursion (λ b. eqb b byte ≡ false) text (false_in byte text h))
 
--- the last name of the text
-pub names_end : (path longer : List (List ℕ)) (text left name : List ℕ) → path ++ slice_split (λ b. eqb b 47) left ≡ slice_split (λ b. eqb b 47) text → Lacks 47 left → name ≡ left → longer ≡ path ++ name ∷ [] → longer ≡ slice_split (λ b. eqb b 47) text
-names_end path longer text left name so_far lacks same e =
-    rw (e, same) (ap (λ parts. path ++ parts) (sym (split_whole left lacks)) ∙ so_far)
+names_only : (text : List ℕ) (texts : List (List ℕ)) (name : List ℕ) → IsNameText text name → (whole : List (List ℕ)) → AreNames (text ∷ texts) whole → (more : List (List ℕ)) × (whole ≡ name ∷ more) × AreNames texts more
+names_only text texts name named [] h = absurd h
+names_only text texts name named (other ∷ more) h = (more, ap (λ n. n ∷ more) (one_name text other name h.0 named), h.1)
 
--- a text with another byte is no path
-pub path_none : (text names : List ℕ) (r : Bool) → text ≡ 47 ∷ names → r ≡ list_all in_path names → r ≡ false → (path : List (List ℕ)) → ¬ (IsPathText text path)
-path_none text names r e all none path h =
-    let here : IsPathText (47 ∷ names) path = (h.0, sym e ∙ h.1) in
-    false≢true (sym none ∙ all ∙ path_bytes names path here)
+-- names go on after their first
+pub names_begin : (texts rest : List (List ℕ)) (text name : List ℕ) → texts ≡ text ∷ rest → IsNameText text name → Begins (AreNames texts) (AreNames rest) name
+names_begin texts rest text name e named = record {
+  reads = λ more h. rw e (named, h);
+  only = λ whole h. names_only text rest name named whole (rw e at h);
+}
 
--- a text of plain names is their path
-pub path_found : (text names : List ℕ) (path : List (List ℕ)) (r : Bool) → text ≡ 47 ∷ names → r ≡ list_all in_path names → r ≡ true → 0 < length names → path ≡ slice_split (λ b. eqb b 47) names → IsPathText text path
-path_found text names path r e all good some parts =
-    let h = parts_are_path names path (sym all ∙ good) some parts in
-    (h.0, e ∙ h.1)
+names_first : (text : List ℕ) (texts : List (List ℕ)) → ((name : List ℕ) → ¬ (IsNameText text name)) → (names : List (List ℕ)) → ¬ (AreNames (text ∷ texts) names)
+names_first text texts none [] h = h
+names_first text texts none (name ∷ names) h = none name h.0
 
--- a path that isn't the root has a slash before each name
+pub names_none : (texts rest : List (List ℕ)) (text : List ℕ) → texts ≡ text ∷ rest → ((name : List ℕ) → ¬ (IsNameText text name)) → (names : List (List ℕ)) → ¬ (AreNames texts names)
+names_none texts rest text e none names h = names_first text rest none names (rw e at h)
+
+-- texts are one list of names at most
+one_names : (texts a b : List (List ℕ)) → AreNames texts a → AreNames texts b → a ≡ b
+one_names [] [] [] h k = refl
+one_names [] [] (n ∷ b) h k = absurd k
+one_names [] (m ∷ a) b h k = absurd h
+one_names (t ∷ texts) [] b h k = absurd h
+one_names (t ∷ texts) (m ∷ a) [] h k = absurd k
+one_names (t ∷ texts) (m ∷ a) (n ∷ b) h k =
+    let x : m ≡ n = one_name t m n h.0 k.0 in
+    let y : a ≡ b = one_names texts a b h.1 k.1 in
+    rw (x, y) refl
+
+-- a text is one path at most
+pub one_path : (text : List ℕ) (p q : List (List ℕ)) → IsPathText text p → IsPathText text q → p ≡ q
+one_path [] p q h k = absurd h
+one_path (b ∷ []) p q h k = h.1 ∙ sym k.1
+one_path (b ∷ c ∷ names) p q h k = one_names _ p q h.1 k.1
+
+pub path_goes : (names : List ℕ) (path : List (List ℕ)) → 0 < length names → AreNames (slice_split (λ b. eqb b 47) names) path → IsPathText (47 ∷ names) path
+path_goes [] path some h = absurd (omega arith)
+path_goes (c ∷ names) path some h = (refl, h)
+
+path_stops : (names : List ℕ) (path : List (List ℕ)) → 0 < length names → IsPathText (47 ∷ names) path → AreNames (slice_split (λ b. eqb b 47) names) path
+path_stops [] path some h = absurd (omega arith)
+path_stops (c ∷ names) path some h = h.1
+
+-- a reader of names that aren't empty reads a path
+pub path_read : {E : Type 0} (r : Result (Option (List (List ℕ))) E) (text names : List ℕ) → text ≡ 47 ∷ names → 0 < length names
+    → IfOk r (Finds (AreNames (slice_split (λ b. eqb b 47) names))) → IfOk r (Finds (IsPathText text))
+path_read (Err e) text names is some h = tt
+path_read (Ok None) text names is some h = λ path k. h path (path_stops names path some (rw is at k))
+path_read (Ok (Some path)) text names is some h = rw is (path_goes names path some h)
+
+-- a text that doesn't begin with `/` is no path
+pub path_none : (text : List ℕ) → ((rest : List ℕ) → text ≢ 47 ∷ rest) → (path : List (List ℕ)) → ¬ (IsPathText text path)
+path_none [] none path h = h
+path_none (b ∷ []) none path h = none [] (ap (λ c. c ∷ []) h.0)
+path_none (b ∷ c ∷ names) none path h = none (c ∷ names) (ap (λ x. x ∷ c ∷ names) h.0)
+
+-- a path has a slash before each name
 pub path_by_names : (path : List (List ℕ)) → 0 < length path → names_text 47 path ≡ path_text path
 path_by_names [] some = absurd (omega arith)
 path_by_names (name ∷ []) some = ap (λ t. 47 ∷ t) (append-nil (name_text name))

@@ -1,9 +1,9 @@
 -- What the reader of a script has read so far, and what is left.
-use Rattle.std.proofs.Common.{◌≡◌, ℕ, ◌+◌, Bool, true, false, List, None, [], ◌∷◌, ◌++◌, length, refl, ap, subst, arith, append_assoc, length-append}
+use Rattle.std.proofs.Common.{◌≡◌, ℕ, ◌+◌, Bool, false, ◌||◌, List, None, [], ◌∷◌, ◌++◌, length, refl, ap, subst, arith, append_assoc, length-append}
 use Rattle.f2_script.specs.declared.script.Line.{Line}
 use Rattle.f2_script.specs.declared.script.Grammar.{Grammar}
 use Rattle.f2_script.specs.Cuts.{Finds}
-use Rattle.f2_script.specs.Grammar.{lines_of, IsLineHere, AreLines, FaultAfter, Spells, IsFirstFault}
+use Rattle.f2_script.specs.Grammar.{lines_of, runs, IsLineHere, AreLines, FaultAfter, Spells, IsFirstFault}
 use Rattle.std.proofs.lemmas.List.{append-nil}
 
 -- whatever the rest is, the lines so far and the rest's are the script's
@@ -15,7 +15,7 @@ pub record ReadsOn (grammar : Grammar) (bytes : List ℕ) (lines : List Line) (b
 pub reads_start : (grammar : Grammar) (bytes : List ℕ) → ReadsOn grammar bytes [] false bytes
 reads_start grammar bytes = record { spelled = λ more h. h; faulty = λ more h. h; counted = omega arith }
 
-pub reads_more : (grammar : Grammar) (bytes : List ℕ) (lines : List Line) (begun : Bool) (left text rest : List ℕ) (line : Line) → ReadsOn grammar bytes lines begun left → lines_of left ≡ text ∷ lines_of rest → IsLineHere grammar begun text line → ReadsOn grammar bytes (lines ++ line ∷ []) true rest
+pub reads_more : (grammar : Grammar) (bytes : List ℕ) (lines : List Line) (begun : Bool) (left text rest : List ℕ) (line : Line) → ReadsOn grammar bytes lines begun left → lines_of left ≡ text ∷ lines_of rest → IsLineHere grammar begun text line → ReadsOn grammar bytes (lines ++ line ∷ []) (begun || runs line) rest
 reads_more grammar bytes lines begun left text rest line on e here = record {
   spelled = λ more h. rw append_assoc (on.spelled (line ∷ more) (rw e (here, h)));
   faulty = λ more h. rw append_assoc (on.faulty (line ∷ more) (rw e (here, h)));

@@ -1,14 +1,14 @@
 -- Which bytes are a script, line by line.
-use Rattle.std.specs.Prelude.{◌≡◌, ◌≢◌, ℕ, ◌+◌, ◌^◌, ◌<◌, ◌≤◌, ◌⊎◌, Bool, true, false, List, [], ◌∷◌, ◌++◌, length, if◌then◌else◌, ◌==◌}
-use Rattle.std.specs.List.{onto_first, AllByRecursion, flat_map}
+use Rattle.std.specs.Prelude.{◌≡◌, ℕ, ◌+◌, ◌<◌, ◌≤◌, ◌⊎◌, Bool, true, false, ◌||◌, List, [], ◌∷◌, ◌++◌, length, if◌then◌else◌, ◌==◌}
+use Rattle.std.specs.List.{onto_first, flat_map}
 use Rattle.f2_model.specs.declared.requests.Request.{Request}
-use Rattle.f2_model.specs.declared.requests.Request.TheVariants.{Create}
+use Rattle.f2_model.specs.declared.requests.Request.TheVariants.{Create, Write, Fsync, Sync}
 use Rattle.f2_script.specs.declared.script.Line.{Line}
-use Rattle.f2_script.specs.declared.script.Line.TheVariants.{Mkfs, Call, Tree}
+use Rattle.f2_script.specs.declared.script.Line.TheVariants.{Skipped, Mkfs, Call, Begin, Crash, Fail, Stop, Tree}
 use Rattle.f2_script.specs.declared.script.Grammar.{Grammar}
-use Rattle.f2_script.specs.declared.script.Grammar.TheVariants.{Replay}
-use Rattle.f2_script.specs.Text.{is_plain, path_text}
-use Rattle.f2_script.specs.Lines.{request_text, spelling}
+use Rattle.f2_script.specs.declared.script.Grammar.TheVariants.{Whole, Replay, Plain}
+use Rattle.f2_script.specs.Words.{AreWords, split_words}
+use Rattle.f2_script.specs.Lines.{request_words, line_words, spelling}
 
 -- the texts of the lines: a line ends at byte 10 or at the end, and where no byte is left no line begins
 abbrev pub lines_of : List ℕ → List (List ℕ)
@@ -19,40 +19,68 @@ lines_of (b ∷ bytes) = if b == 10 then [] ∷ lines_of bytes else onto_first b
 abbrev pub IsTooLong : List ℕ → Type 0
 IsTooLong bytes = (1048576 < length bytes) ⊎ (65536 < length (lines_of bytes))
 
--- a name whose bytes all show as themselves; it may be empty
-abbrev pub IsPlainName : List ℕ → Type 0
-IsPlainName name = AllByRecursion (λ b. is_plain b ≡ true) name
+-- what the words of a call don't say: a write has 1 to 8 pieces
+abbrev pub IsInLimits : Request → Type 0
+IsInLimits (Write path pieces) = (1 ≤ length pieces) × (length pieces ≤ 8)
+IsInLimits _ = Unit {0}
 
--- a path that a line can hold; the text `/` is the root, and so no path of one empty name
-abbrev pub IsPath : List (List ℕ) → Type 0
-IsPath path = (path ≢ [] ∷ []) × AllByRecursion IsPlainName path
+-- the calls that a line may begin and leave in flight
+abbrev pub IsLong : Request → Type 0
+IsLong (Fsync path) = Unit {0}
+IsLong Sync = Unit {0}
+IsLong _ = ⊥
 
--- the calls that a line can hold
-abbrev pub IsRequest : Request → Type 0
-IsRequest (Create path) = IsPath path
-IsRequest _ = ⊥
+-- texts are the words of this call
+abbrev pub IsRequest : List (List ℕ) → Request → Type 0
+IsRequest texts request = IsInLimits request × AreWords (request_words request) texts
 
--- the numbers and paths that each kind of line can hold
-abbrev pub IsWithinLimits : Line → Type 0
-IsWithinLimits (Mkfs blocks nat) = (blocks < 2 ^ 32) × (nat < 2 ^ 32)
-IsWithinLimits (Call seat request) = (1 ≤ seat) × (seat ≤ 8) × IsRequest request
-IsWithinLimits Tree = Unit {0}
+-- what the words of a line don't say
+abbrev pub KeepsLimits : Line → Type 0
+KeepsLimits (Call seat request) = IsInLimits request
+KeepsLimits (Begin seat request) = IsLong request
+KeepsLimits _ = Unit {0}
 
--- the text is this path, this call, this line
-abbrev pub IsPathText : List ℕ → List (List ℕ) → Type 0
-IsPathText text path = IsPath path × (text ≡ path_text path)
+-- texts are the words of this line
+abbrev pub IsSaid : List (List ℕ) → Line → Type 0
+IsSaid texts line = KeepsLimits line × AreWords (line_words line) texts
 
-abbrev pub IsRequestText : List ℕ → Request → Type 0
-IsRequestText text request = IsRequest request × (text ≡ request_text request)
+-- a line that says nothing: it is empty or begins with `#`
+abbrev pub SaysNothing : List ℕ → Type 0
+SaysNothing [] = Unit {0}
+SaysNothing (b ∷ text) = b ≡ 35
 
+-- the text is this line
 abbrev pub IsLine : List ℕ → Line → Type 0
-IsLine text line = IsWithinLimits line × (text ≡ spelling line)
+IsLine text line = (SaysNothing text × (line ≡ Skipped)) ⊎ IsSaid (split_words text) line
 
--- where a line may stand, by whether one stands before it: `mkfs` begins a replay, and stands nowhere else
+-- the lines that each grammar takes: `Replay` has no more than creates and trees so far; `Plain` plans no
+-- failures, and its crashes keep either all that was written or as little as they may
+abbrev pub takes : Grammar → Line → Bool
+takes Whole _ = true
+takes Replay (Mkfs blocks nat) = true
+takes Replay (Call seat (Create path)) = true
+takes Replay Tree = true
+takes Replay _ = false
+takes Plain (Crash pick) = pick == 0 || pick == 18446744073709551615
+takes Plain (Fail kind n) = false
+takes Plain (Stop n) = false
+takes Plain _ = true
+
+-- whether a line is one that runs
+abbrev pub runs : Line → Bool
+runs Skipped = false
+runs _ = true
+
+-- where a line may stand, by whether one that runs stands before it: `mkfs` is the first that runs, and
+-- stands nowhere else
+abbrev pub MayFollow : Bool → Line → Type 0
+MayFollow begun Skipped = Unit {0}
+MayFollow begun (Mkfs blocks nat) = begun ≡ false
+MayFollow begun _ = begun ≡ true
+
+-- the grammar takes this line, and it may stand here
 abbrev pub MayStand : Grammar → Bool → Line → Type 0
-MayStand Replay begun (Mkfs blocks nat) = begun ≡ false
-MayStand Replay begun (Call seat request) = begun ≡ true
-MayStand Replay begun Tree = begun ≡ true
+MayStand grammar begun line = (takes grammar line ≡ true) × MayFollow begun line
 
 -- the text is this line, which may stand here
 abbrev pub IsLineHere : Grammar → Bool → List ℕ → Line → Type 0
@@ -63,7 +91,7 @@ abbrev pub AreLines : Grammar → Bool → List (List ℕ) → List Line → Typ
 AreLines grammar begun [] [] = Unit {0}
 AreLines grammar begun [] (line ∷ lines) = ⊥
 AreLines grammar begun (text ∷ texts) [] = ⊥
-AreLines grammar begun (text ∷ texts) (line ∷ lines) = IsLineHere grammar begun text line × AreLines grammar true texts lines
+AreLines grammar begun (text ∷ texts) (line ∷ lines) = IsLineHere grammar begun text line × AreLines grammar (begun || runs line) texts lines
 
 -- the bytes of a script are these lines
 abbrev pub Spells : Grammar → List ℕ → List Line → Type 0
@@ -73,7 +101,7 @@ Spells grammar bytes lines = AreLines grammar false (lines_of bytes) lines
 abbrev pub FaultAfter : Grammar → Bool → List (List ℕ) → List Line → Type 0
 FaultAfter grammar begun [] lines = ⊥
 FaultAfter grammar begun (text ∷ texts) [] = (line : Line) → ¬ (IsLineHere grammar begun text line)
-FaultAfter grammar begun (text ∷ texts) (line ∷ lines) = IsLineHere grammar begun text line × FaultAfter grammar true texts lines
+FaultAfter grammar begun (text ∷ texts) (line ∷ lines) = IsLineHere grammar begun text line × FaultAfter grammar (begun || runs line) texts lines
 
 -- line n of the bytes, counted from 1, is the first that isn't in the grammar at its place
 abbrev pub IsFirstFault : Grammar → List ℕ → ℕ → Type 0

@@ -14,9 +14,13 @@ upper_digit d = if nat_le 10 d then 55 + d else 48 + d
 abbrev pub lower_digit : ℕ → ℕ
 lower_digit d = if nat_le 10 d then 87 + d else 48 + d
 
+-- a byte as `%` and two hexadecimal digits
+abbrev pub escape : ℕ → List ℕ
+escape b = 37 ∷ upper_digit (b / 16) ∷ upper_digit (b % 16) ∷ []
+
 -- a byte of a name as it is shown: itself, or `%` and two hexadecimal digits
 abbrev pub byte_text : ℕ → List ℕ
-byte_text b = if is_plain b then b ∷ [] else 37 ∷ upper_digit (b / 16) ∷ upper_digit (b % 16) ∷ []
+byte_text b = if is_plain b then b ∷ [] else escape b
 
 -- a name as it is shown
 abbrev pub name_text : List ℕ → List ℕ

@@ -1,13 +1,13 @@
 //! Reading a script.
 ghost use Rattle.std.specs.Prelude.{◌≡◌, true, ◌∷◌, ◌++◌, [], ◌<◌, ◌⊎◌, ◌↔◌, ℕ, List, length, codes, IfOk, IfSome, MatchOption, IsErrOf};
 ghost use Rattle.f2_script.specs.Cuts.{Finds};
-ghost use Rattle.f2_script.specs.Grammar.{lines_of, IsTooLong, IsRequestText, IsLine, IsLineHere, MayStand, Spells, IsFirstFault};
+ghost use Rattle.f2_script.specs.Grammar.{lines_of, IsTooLong, takes, runs, MayFollow, MayStand, IsLineHere, Spells, IsFirstFault};
 ghost use Rattle.f2_script.specs.Faults.{UnlessMemory};
 ghost use Rattle.f2_script.specs.declared.script.Line.{Line};
 
-use crate::paths::path_of;
+use crate::line_readers::line_of;
 use crate::script::{Grammar, Line, Lines, ScriptFault};
-use crate::words::{after, cut_at, number};
+use crate::words::cut_at;
 use f2_model::Request;
 use std::alloc::{AllocError, Global};
 
@@ -16,12 +16,6 @@ const MOST_BYTES: usize = 1_048_576;
 
 /// The most lines of a script.
 const MOST_LINES: usize = 65_536;
-
-/// The greatest number of blocks that a script may name.
-const LAST_NUMBER: u64 = u32::MAX as u64;
-
-/// The seats that a script may name are 1 to this one.
-const LAST_SEAT: u64 = 8;
 
 /// The first line of the text without its end, and the bytes after it. None where no byte is left.
 fn next_line(text: &[u8]) -> Option<(&[u8], &[u8])>
@@ -49,78 +43,52 @@ fn line_count(bytes: &[u8]) -> usize
     count
 }
 
-/// The `mkfs` line that ends in these words.
-fn mkfs_of(words: &[u8]) -> Option<Line>
-    ensures { Finds (IsLine (codes "mkfs " ++ words.now)) result }
+/// Whether a grammar takes a line.
+fn is_taken(grammar: Grammar, line: &Line) -> bool
+    ensures { result ≡ takes grammar line.now }
 {
-    let (blocks, nat) = cut_at(words, b' ')?;
-    let blocks = number(blocks, LAST_NUMBER)?;
-    let nat = number(nat, LAST_NUMBER)?;
-    Some(Line::Mkfs {
-        blocks: blocks as u32,
-        nat: nat as u32,
-    })
+    match grammar {
+        Grammar::Whole => true,
+        Grammar::Replay => matches!(
+            line,
+            Line::Mkfs { .. }
+                | Line::Call {
+                    request: Request::Create { .. },
+                    ..
+                }
+                | Line::Tree
+        ),
+        Grammar::Plain => match line {
+            Line::Crash { pick } => *pick == 0 || *pick == u64::MAX,
+            Line::Fail { .. } | Line::Stop { .. } => false,
+            _ => true,
+        },
+    }
 }
 
-/// The call that the text is.
-fn request_of(alloc: Global, text: &[u8]) -> Result<Option<Request>, AllocError>
-    ensures { IfOk result (Finds (IsRequestText text.now)) }
+/// Whether a line is one that runs.
+fn is_run(line: &Line) -> bool
+    ensures { result ≡ runs line.now }
 {
-    let Some(path) = after(text, b"create ") else {
-        return Ok(None);
-    };
-    let Some(path) = path_of(alloc, path)? else {
-        return Ok(None);
-    };
-    Ok(Some(Request::Create { path }))
+    !matches!(line, Line::Skipped)
 }
 
-/// The `call` line that ends in these words.
-fn call_of(alloc: Global, words: &[u8]) -> Result<Option<Line>, AllocError>
-    ensures { IfOk result (Finds (IsLine (codes "call " ++ words.now))) }
+/// Whether a line may stand in a script, by whether one that runs stands before it.
+fn may_follow(begun: bool, line: &Line) -> bool
+    ensures { (result ≡ true) ↔ MayFollow begun line.now }
 {
-    let Some((seat, request)) = cut_at(words, b' ') else {
-        return Ok(None);
-    };
-    let Some(seat) = number(seat, LAST_SEAT) else {
-        return Ok(None);
-    };
-    if seat == 0 {
-        return Ok(None);
+    match line {
+        Line::Skipped => true,
+        Line::Mkfs { .. } => !begun,
+        _ => begun,
     }
-    let Some(request) = request_of(alloc, request)? else {
-        return Ok(None);
-    };
-    Ok(Some(Line::Call {
-        seat: seat as u8,
-        request,
-    }))
 }
 
-/// The line that the text is.
-fn line_of(alloc: Global, text: &[u8]) -> Result<Option<Line>, AllocError>
-    ensures { IfOk result (Finds (IsLine text.now)) }
-{
-    if text == b"tree".as_slice() {
-        return Ok(Some(Line::Tree));
-    }
-    if let Some(words) = after(text, b"mkfs ") {
-        return Ok(mkfs_of(words));
-    }
-    if let Some(words) = after(text, b"call ") {
-        return call_of(alloc, words);
-    }
-    Ok(None)
-}
-
-/// Whether a line may stand in a script, by whether one stands before it.
+/// Whether the grammar takes a line, and it may stand in a script.
 fn may_stand(grammar: Grammar, begun: bool, line: &Line) -> bool
     ensures { (result ≡ true) ↔ MayStand grammar begun line.now }
 {
-    match (grammar, line) {
-        (Grammar::Replay, Line::Mkfs { .. }) => !begun,
-        (Grammar::Replay, Line::Call { .. } | Line::Tree) => begun,
-    }
+    is_taken(grammar, line) && may_follow(begun, line)
 }
 
 /// The line that the text is, where it may stand.
@@ -132,10 +100,13 @@ fn line_here(
 ) -> Result<Option<Line>, AllocError>
     ensures { IfOk result (Finds (IsLineHere grammar begun text.now)) }
 {
-    match line_of(alloc, text)? {
-        Some(line) if may_stand(grammar, begun, &line) => Ok(Some(line)),
-        _ => Ok(None),
+    let Some(line) = line_of(alloc, text)? else {
+        return Ok(None);
+    };
+    if !may_stand(grammar, begun, &line) {
+        return Ok(None);
     }
+    Ok(Some(line))
 }
 
 /// The lines of a script that isn't too long.
@@ -154,8 +125,8 @@ fn read_lines(alloc: Global, bytes: &[u8], grammar: Grammar) -> Result<Lines, Sc
                 line: lines.len() as u32 + 1,
             });
         };
+        begun = begun || is_run(&line);
         lines.push(line)?;
-        begun = true;
         left = rest;
     }
     Ok(lines)
@@ -185,31 +156,4 @@ pub fn parse(alloc: Global, bytes: &[u8], grammar: Grammar) -> Result<Lines, Scr
         return Err(ScriptFault::TooLong);
     }
     read_lines(alloc, bytes, grammar)
-}
-
-#[cfg(test)]
-mod tests {
-    use super::parse;
-    use crate::script::{Grammar, ScriptFault};
-
-    #[test]
-    fn names_the_first_line_outside_the_grammar(rt: HostRuntime) {
-        let rows: [(&[u8], u32); 9] = [
-            (b"tree\n", 1),
-            (b"mkfs 128 1\ncal 1 sync\n", 2),
-            (b"mkfs 128 1\n\ntree\n", 2),
-            (b"mkfs 128 01\n", 1),
-            (b"mkfs 4294967296 1\n", 1),
-            (b"mkfs 128 1\ntree\nmkfs 128 1\n", 3),
-            (b"mkfs 128 1\ncall 9 create /a\n", 2),
-            (b"mkfs 128 1\ncall 1 create a\n", 2),
-            (b"mkfs 128 1\ncall 1 create /a%41\n", 2),
-        ];
-        for (bytes, want) in rows {
-            match parse(rt.alloc(), bytes, Grammar::Replay) {
-                Err(ScriptFault::Line { line }) => assert_eq!(rt; line, want),
-                _ => panic!(rt; "line {want} is none"),
-            }
-        }
-    }
 }

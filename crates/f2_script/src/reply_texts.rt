@@ -6,7 +6,8 @@ use crate::texts::{push_argument, push_hex, push_names, push_number};
 use f2_model::{Name, Reason, Reply, Space};
 use std::alloc::{AllocError, Global};
 
-fn reason_word(reason: Reason) -> &'static [u8]
+/// Why an fsync made a checkpoint.
+pub fn reason_word(reason: Reason) -> &'static [u8]
     ensures { result.now ≡ reason_text reason }
 {
     match reason {

@@ -1,12 +1,12 @@
 //! Writing names, numbers and paths at the end of a text.
-ghost use Rattle.std.specs.Prelude.{◌≡◌, ◌∷◌, ◌++◌, ◌<◌, decimal, OnOk};
+ghost use Rattle.std.specs.Prelude.{◌≡◌, ◌∷◌, ◌++◌, ◌<◌, decimal, IfOk, OnOk};
 ghost use Rattle.f2_script.specs.Text.{upper_digit as upper, lower_digit as lower, byte_text, name_text, path_text};
 ghost use Rattle.f2_script.specs.Replies.{hex_text, names_text};
 
 use crate::paths::is_plain;
 use f2_model::{Name, Path};
 use itoa::Buffer;
-use std::alloc::AllocError;
+use std::alloc::{AllocError, Global};
 
 fn upper_digit(digit: u8) -> u8
     requires { digit < 16 }
@@ -98,4 +98,35 @@ pub fn push_hex(text: &mut Vec<u8>, bytes: &[u8]) -> Result<(), AllocError>
         text.push(lower_digit(*byte % 16))?;
     }
     Ok(())
+}
+
+/// Writes a space and a word.
+pub fn push_word(text: &mut Vec<u8>, word: &[u8]) -> Result<(), AllocError>
+    ensures { OnOk result (text.new.items ≡ text.old.items ++ 32 ∷ word.now) }
+{
+    text.push(b' ')?;
+    text.extend_from_slice(word)
+}
+
+/// A word and a number.
+pub fn with_number(alloc: Global, word: &[u8], number: u64) -> Result<Vec<u8>, AllocError>
+    ensures { IfOk result (λ text. text.items ≡ word.now ++ 32 ∷ decimal number) }
+{
+    let mut text = Vec::from_slice(alloc, word)?;
+    push_argument(&mut text, number)?;
+    Ok(text)
+}
+
+/// A word and two numbers.
+pub fn with_numbers(
+    alloc: Global,
+    word: &[u8],
+    first: u64,
+    second: u64,
+) -> Result<Vec<u8>, AllocError>
+    ensures { IfOk result (λ text. text.items ≡ word.now ++ 32 ∷ (decimal first ++ 32 ∷ decimal second)) }
+{
+    let mut text = with_number(alloc, word, first)?;
+    push_argument(&mut text, second)?;
+    Ok(text)
 }

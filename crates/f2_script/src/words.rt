@@ -1,8 +1,10 @@
 //! Words and numbers of a line.
-ghost use Rattle.std.specs.Prelude.{◌≡◌, ◌≢◌, ℕ, List, ◌++◌, ◌==◌, ◌≤◌, position, decimal, MatchOption};
+ghost use Rattle.std.specs.Prelude.{◌≡◌, ◌≢◌, ℕ, List, [], ◌∷◌, ◌++◌, ◌==◌, ◌≤◌, position, decimal, MatchOption, IfOk};
 ghost use Rattle.f2_script.specs.Cuts.{Finds, Lacks, IsCutAt};
+ghost use Rattle.f2_script.specs.Words.{Number, IsWord, AreWords, split_words, shown};
 
 use itoa::Buffer;
+use std::alloc::{AllocError, Global};
 use std::str;
 
 fn place_of(text: &[u8], byte: u8) -> Option<usize>
@@ -26,8 +28,15 @@ pub fn after<'a>(text: &'a [u8], word: &[u8]) -> Option<&'a [u8]>
     text.strip_prefix(word)
 }
 
+/// The words of a line.
+pub fn words_of(alloc: Global, line: &[u8]) -> Result<Vec<&[u8]>, AllocError>
+    ensures { IfOk result (λ words. shown words.items ≡ split_words line.now) }
+{
+    line.split(|b| *b == b' ').collect(alloc)
+}
+
 /// The number that the text is, up to a limit. With a sign or a leading zero it is none.
-pub fn number(text: &[u8], limit: u64) -> Option<u64>
+fn number_to(text: &[u8], limit: u64) -> Option<u64>
     ensures { Finds (λ n. (n ≤ limit) × (text.now ≡ decimal n)) result }
 {
     let Ok(digits) = str::from_utf8(text) else {
@@ -41,4 +50,25 @@ pub fn number(text: &[u8], limit: u64) -> Option<u64>
     } else {
         None
     }
+}
+
+/// The number that the text is, from a least to a greatest one.
+pub fn number(text: &[u8], least: u64, most: u64) -> Option<u64>
+    ensures { Finds (λ n. IsWord (Number least most n) text.now) result }
+{
+    let number = number_to(text, most)?;
+    if number < least {
+        return None;
+    }
+    Some(number)
+}
+
+/// The number that the words are, from a least to a greatest one.
+pub fn one_number(words: &[&[u8]], least: u64, most: u64) -> Option<u64>
+    ensures { Finds (λ n. AreWords (Number least most n ∷ []) (shown words.now)) result }
+{
+    let [word] = words else {
+        return None;
+    };
+    number(word, least, most)
 }

@@ -1,32 +1,11 @@
-use Rattle.std.proofs.Common.{◌≡◌, ℕ, subst, sym, ◌∙◌, arith, Bool, false, eqb, List}
-use Rattle.std.proofs.lemmas.Bool.{false≢true}
-use Rattle.std.specs.Cmp.Lexicographic.{pointwise}
-use Rattle.std.proofs.lemmas.Slice.Eq.{bytes_eq-Decides}
-use Rattle.std.specs.Str.{IsUtf8}
-use Rattle.f2_script.proofs.Decimals.{decimal_utf8, parses_decimal}
+use Rattle.std.proofs.Common.{◌≡◌, sym, ◌∙◌, arith}
+use Rattle.std.proofs.lemmas.Fmt.{decimal_injective}
 use Rattle.f2_script.proofs.words.number.Goals as goal
-use Rattle.f2_script.proofs.words.number.Goals.{else-number-limit-via-then-number-limit+else-eq, else-number-limit-via-else-number-limit}
 
--- texts that `==` tells apart aren't the same
-differs : (xs ys : List ℕ) (r : Bool) → r ≡ pointwise eqb xs ys → r ≡ false → xs ≡ ys → ⊥
-differs xs ys r e f same = false≢true (sym f ∙ e ∙ (bytes_eq-Decides xs ys).1 same)
-
-pub returns-in_default : goal.returns-in_default
-returns-in_default c = λ x p.
-    c.in_default.ensures.cases.0 (subst IsUtf8 (sym p.1) (decimal_utf8 x (omega arith)))
-
-pub returns-in_default-parse : goal.returns-in_default-parse
-returns-in_default-parse c = λ x p.
-    let e = parses_decimal _ c.args.text.now c.in-Ok.digits.now c.args.limit x c.in-Ok.ensures.cases.0 c.parse.ensures.value.0 (omega arith) p.0 p.1 in
-    cc
-
-pub returns-else-number-limit : goal.returns-else-number-limit
-returns-else-number-limit c = λ x p.
-    let e = parses_decimal _ c.args.text.now c.in-Ok.digits.now c.args.limit x c.in-Ok.ensures.cases.0 c.parse.ensures.value.0 (omega arith) p.0 p.1 in
-    let same : c.in-Ok-parse.number ≡ x = cc in
-    elim c.else-number-limit.branch [
-      | else-number-limit-via-then-number-limit+else-eq w ↦
-          let shown : w.as_bytes.result.now ≡ c.args.text.now = cc in
-          differs _ _ _ w.eq.ensures w.if-eq.false shown
-      | else-number-limit-via-else-number-limit w ↦ omega arith
-    ]
+pub returns-then-number-least : goal.returns-then-number-least
+returns-then-number-least c = λ x p.
+    let most = c.ranges.most.fits in
+    let low = c.in_ok-number.ensures.0 in
+    let same : x ≡ c.in_ok-number.number = decimal_injective x c.in_ok-number.number (omega arith) (omega arith) (sym p.2 ∙ c.in_ok-number.ensures.1) in
+    let less = c.if-number-least.true in
+    omega arith
