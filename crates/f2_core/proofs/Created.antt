@@ -127,7 +127,7 @@ pub made-ComesTo : {D : Type 0} (disk : D) (limits : Limits) (tree new : Rows) (
 made-ComesTo disk limits tree new before after seat ino path core early added entries choices =
     comes-once _ _ (Begin seat (Create path)) (replied reply.Done) (made_turn tree (length before.entries) seat ino path)
     (made_step limits tree new (length before.entries) seat ino path core.nids core.grown early added) refl
-    (made_state limits tree new (length before.entries) (length after.entries) seat ino path added (one_more before.entries after.entries _ entries)) entries choices refl refl
+    (made_state limits tree new (length before.entries) (length after.entries) seat ino path added (one_more before.entries after.entries _ entries)) entries choices refl refl tt
 
 pub refused-ComesTo : {D : Type 0} (disk : D) (limits : Limits) (tree new : Rows) (before after : History) (seat : ℕ) (refused : Reply) (path : List (List ℕ)) → IsCore limits tree true before → length before.entries < MOST_ENTRIES
     → IsKeptOut limits tree path refused → new ≡ tree → after.entries ≡ before.entries ++ entry.Did seat (Create path) (outcome_of refused) ∷ [] → after.choices ≡ before.choices ++ []
@@ -135,4 +135,4 @@ pub refused-ComesTo : {D : Type 0} (disk : D) (limits : Limits) (tree new : Rows
 refused-ComesTo disk limits tree new before after seat refused path core early out same entries choices =
     comes-once _ _ (Begin seat (Create path)) (replied refused) (refused_turn tree (length before.entries) seat refused path)
     (refused_step limits tree (length before.entries) seat path refused core.nids core.grown early out) refl
-    (refused_state tree new (length before.entries) (length after.entries) seat refused path same (one_more before.entries after.entries _ entries)) entries choices refl refl
+    (refused_state tree new (length before.entries) (length after.entries) seat refused path same (one_more before.entries after.entries _ entries)) entries choices refl refl tt

@@ -60,21 +60,21 @@ module _ {D : Type 0} (disk : D) (limits : Limits) (tree : Rows) (history : Hist
   pub closed-ComesTo : (seat : ℕ) (path : List (List ℕ)) (is_open : Bool) → is_open ≡ false
       → ComesTo (seen disk limits tree is_open history) (seen disk limits tree is_open history) (Begin seat (Create path)) (replied reply.Closed)
   closed-ComesTo seat path true is = absurd (true≢false is)
-  closed-ComesTo seat path false is = comes-unchanged _ _ _ (λ room. inl refl)
+  closed-ComesTo seat path false is = comes-unchanged _ _ _ (λ room. inl refl) tt
 
   pub spent-ComesTo : (seat : ℕ) (path : List (List ℕ)) (is_open : Bool) → is_open ≡ true → MOST_ENTRIES ≤ length history.entries
       → ComesTo (seen disk limits tree is_open history) (seen disk limits tree is_open history) (Begin seat (Create path)) (replied reply.Spent)
-  spent-ComesTo seat path true is late = comes-unchanged _ _ _ (λ room. inl (step-spent limits calm tree (length history.entries) seat path late))
+  spent-ComesTo seat path true is late = comes-unchanged _ _ _ (λ room. inl (step-spent limits calm tree (length history.entries) seat path late)) tt
   spent-ComesTo seat path false is late = absurd (true≢false (sym is))
 
   pub memory-ComesTo : (new : Rows) (seat : ℕ) (path : List (List ℕ)) (is_open : Bool) → new ≡ tree
       → ComesTo (seen disk limits tree is_open history) (seen disk limits new is_open history) (Begin seat (Create path)) (replied reply.Memory)
   memory-ComesTo new seat path is_open same =
       subst (λ t. ComesTo (seen disk limits tree is_open history) (seen disk limits t is_open history) (Begin seat (Create path)) (replied reply.Memory)) (sym same)
-      (comes-unchanged _ _ _ (λ room. inr refl))
+      (comes-unchanged _ _ _ (λ room. inr refl) tt)
 
   pub mounted-ComesTo : (is_open : Bool) → is_open ≡ true → ComesTo (seen disk limits tree is_open history) (seen disk limits tree is_open history) Mount machine.AlreadyMounted
-  mounted-ComesTo true is = comes-unchanged _ _ _ (λ room. refl)
+  mounted-ComesTo true is = comes-unchanged _ _ _ (λ room. refl) tt
   mounted-ComesTo false is = absurd (true≢false (sym is))
 
   pub unmounted-ComesTo : (after : History) (is_open : Bool) → is_open ≡ false → after ≡ history
@@ -82,7 +82,7 @@ module _ {D : Type 0} (disk : D) (limits : Limits) (tree : Rows) (history : Hist
   unmounted-ComesTo after true is same = absurd (true≢false is)
   unmounted-ComesTo after false is same =
       subst (λ h. ComesTo (seen disk limits tree false history) (seen disk limits tree false h) Mount (machine.NotMounted machine.NoMemory)) (sym same)
-      (comes-unchanged _ _ _ (λ room. inr (inr (inr (inr (inr refl))))))
+      (comes-unchanged _ _ _ (λ room. inr (inr (inr (inr (inr refl))))) tt)
 
 -- the turns of a mount's checkpoint: it finds the bare tree, writes its tail and is done
 abbrev pub found_turn : ℕ → Turn
@@ -176,6 +176,7 @@ module _ (limits : Limits) (tree : Rows) (before after : History) (core : IsCore
     events = mounting (length before.entries);
     happened = happened;
     told = (refl, refl, (refl, (refl, tt)));
+    answered = tt;
     entries = entries;
     choices = choices;
     limits = refl;

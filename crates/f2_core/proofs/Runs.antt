@@ -7,7 +7,7 @@ use Rattle.f2_model.specs.State.{State}
 use Rattle.f2_model.specs.Step as machine
 use Rattle.f2_model.specs.Step.{Event, Answer, Faults, Turn, Step}
 use Rattle.f2_core.specs.Seen.{Seen}
-use Rattle.f2_core.specs.Events.{ComesTo}
+use Rattle.f2_core.specs.Events.{IsFollowed, IsAnswered, ComesTo}
 use Rattle.f2_model.specs.Run.{Happening, entries_of, choices_of}
 use Rattle.f2_core.specs.Room.{HasRoom, HappenedWithRoom, IsRunWithRoom}
 
@@ -43,16 +43,27 @@ run-once limits from mid es cs event turn run step =
     subst (λ e. IsRunWithRoom limits from (es ++ e) (cs ++ turn.choices) turn.after) (append-nil turn.entries)
     (subst (λ c. IsRunWithRoom limits from (es ++ (turn.entries ++ [])) (cs ++ c) turn.after) (append-nil turn.choices) more)
 
+-- nothing has to follow an answer
+followed-none : (answer : Answer) → IsFollowed answer []
+followed-none (machine.Began begun) = refl
+followed-none (machine.Stepped step) = refl
+followed-none (machine.Ticked tick) = refl
+followed-none (machine.Found rows) = tt
+followed-none machine.AlreadyMounted = refl
+followed-none (machine.NotMounted refused) = refl
+followed-none machine.Crashed = refl
+
 -- a call that came to one event
 pub comes-once : {D : Type 0} (old new : Seen D) (event : Event) (answer : Answer) (turn : Turn)
     → (HasRoom old.limits old.state event → Step old.limits calm old.state event turn)
     → turn.answer ≡ answer → turn.after ≡ new.state
     → new.history.entries ≡ old.history.entries ++ turn.entries → new.history.choices ≡ old.history.choices ++ turn.choices
-    → new.limits ≡ old.limits → new.disk ≡ old.disk → ComesTo old new event answer
-comes-once old new event answer turn step told after entries choices limits disk = record {
+    → new.limits ≡ old.limits → new.disk ≡ old.disk → IsAnswered event answer → ComesTo old new event answer
+comes-once old new event answer turn step told after entries choices limits disk answered = record {
   events = record { event = event; faults = calm; turn = turn } ∷ [];
   happened = (step, after);
-  told = (refl, told, tt);
+  told = (refl, told, followed-none answer);
+  answered = answered;
   entries = entries ∙ ap (λ e. old.history.entries ++ e) (sym (append-nil turn.entries));
   choices = choices ∙ ap (λ c. old.history.choices ++ c) (sym (append-nil turn.choices));
   limits = limits;
@@ -60,7 +71,7 @@ comes-once old new event answer turn step told after entries choices limits disk
 }
 
 -- a call that changed nothing
-pub comes-unchanged : {D : Type 0} (old : Seen D) (event : Event) (answer : Answer) → (HasRoom old.limits old.state event → Step old.limits calm old.state event (machine.unchanged old.state answer)) → ComesTo old old event answer
-comes-unchanged old event answer step =
+pub comes-unchanged : {D : Type 0} (old : Seen D) (event : Event) (answer : Answer) → (HasRoom old.limits old.state event → Step old.limits calm old.state event (machine.unchanged old.state answer)) → IsAnswered event answer → ComesTo old old event answer
+comes-unchanged old event answer step answered =
     comes-once old old event answer (machine.unchanged old.state answer) step refl (λ i. record old.state { entries = add-zero old.state.entries i })
-    (sym (append-nil old.history.entries)) (sym (append-nil old.history.choices)) refl refl
+    (sym (append-nil old.history.entries)) (sym (append-nil old.history.choices)) refl refl answered
