@@ -2,3 +2,4 @@ pub mod PutLemmas
 pub mod PlayLemmas
 pub mod MountLemmas
 pub mod ReplayLemmas
+pub mod DueLemmas

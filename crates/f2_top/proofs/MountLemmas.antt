@@ -1,5 +1,5 @@
 -- What a mount of a fresh image comes to, and scripts that begin with `mkfs`.
-use Rattle.std.proofs.Common.{◌≡◌, ℕ, zero, suc, Bool, true, false, List, [], ◌∷◌, ◌++◌, sym, ap, ◌∙◌, subst, append_assoc, append-nil, length, take, Result, Ok, Err, inl, inr, arith}
+use Rattle.std.proofs.Common.{◌≡◌, ℕ, zero, suc, Bool, true, false, List, [], ◌∷◌, ◌++◌, refl, sym, ap, ◌∙◌, subst, append_assoc, append-nil, length, take, Result, Ok, Err, inl, inr, arith}
 use Rattle.std.specs.Prelude.{if◌then◌else◌, Option}
 use Rattle.f2_format.specs.Geometry.{Extent, breaks_blocks, breaks_nat, breaks_zones, breaks_nids}
 use Rattle.f2_layout.specs.Refusal.{geometry_of}
@@ -9,7 +9,7 @@ use Rattle.f2_model.specs.declared.bounds.Limits.{Limits}
 use Rattle.f2_model.specs.Run.{Happening}
 use Rattle.f2_core.specs.Events.{IsEvent, ComesTo}
 use Rattle.std.specs.Io.KnownBytes.{Appends}
-use Rattle.std.proofs.KnownBytes.{Appends-trans}
+use Rattle.std.proofs.KnownBytes.{Appends-nil, Appends-trans}
 use Rattle.f2_top.proofs.PlayLemmas.{PlaysTo-none}
 use Rattle.f2_core.specs.Room.{HasRoom, HappenedWithRoom}
 use Rattle.f2_model.specs.State.{State, Mark, initial}
@@ -20,6 +20,7 @@ use Rattle.f2_script.specs.declared.script.Line.TheVariants.{Mkfs}
 use Rattle.f2_top.specs.declared.status.Status.{Status}
 use Rattle.f2_top.specs.declared.status.Status.TheVariants as status
 use Rattle.f2_top.specs.Plays.{PlaysScript, PlaysLines, mkfs_text, limits_of}
+use Rattle.f2_top.specs.Replay.{BreaksLimit}
 use Rattle.f2_top.specs.Runs.{PlaysFrom, IsMounted, SomeCut, Ends, EndsScript}
 use Rattle.f2_top.specs.Streams.{PutsSome}
 
@@ -111,6 +112,26 @@ EndsScript-of lines status.TooLong out ends = ends
 EndsScript-of lines (status.Script line) out ends = ends
 EndsScript-of lines status.SourceFault out ends = ends
 EndsScript-of lines (status.Geometry limit value) out ends = absurd ends
+
+-- the first line of lines that are taken one after another
+pub lines-first : (lines items all rest : List Line) (first one : Line) → items ≡ lines → all ≡ items → all ≡ first ∷ rest → first ≡ one → lines ≡ one ∷ rest
+lines-first lines items all rest first one e f g h = sym (f ∙ e) ∙ g ∙ ap (λ l. l ∷ rest) h
+
+-- a script whose sizes break no limit
+pub EndsScript-mkfs : (old new : Option (List ℕ)) (lines rest : List Line) (asked got : Extent) (s : Status)
+    → lines ≡ Mkfs asked.blocks asked.nat ∷ rest → Ok got ≡ geometry_of asked
+    → (out : List ℕ) × Appends old new out × Ends PlaysScript (Mkfs got.blocks got.nat ∷ rest) s out → (out : List ℕ) × Appends old new out × EndsScript lines s out
+EndsScript-mkfs old new lines rest asked got s is sizes (out, written, ends) =
+    let same : got ≡ asked = geometry_of-ok asked got (sym sizes) in
+    let all : Mkfs got.blocks got.nat ∷ rest ≡ lines = ap (λ (e : Extent). Mkfs e.blocks e.nat ∷ rest) same ∙ sym is in
+    (out, written, EndsScript-of lines s out (subst (λ ls. Ends PlaysScript ls s out) all ends))
+
+-- a script whose sizes break one
+pub EndsScript-broken : (now : Option (List ℕ)) (lines rest : List Line) (asked : Extent) (bad : BadGeometry)
+    → lines ≡ Mkfs asked.blocks asked.nat ∷ rest → Err bad ≡ geometry_of asked
+    → (out : List ℕ) × Appends now now out × (BreaksLimit lines bad.limit bad.value × (out ≡ []))
+EndsScript-broken now lines rest asked bad is broken =
+    ([], Appends-nil now, (record { extent = asked; rest = rest; first = is; broken = sym broken }, refl))
 
 -- a core that was mounted on an image of these sizes
 pub IsMounted-of : {D : Type 0} (extent : Extent) (core new : Seen D) (rows : ℕ)

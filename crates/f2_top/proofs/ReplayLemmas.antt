@@ -2,14 +2,13 @@
 use Rattle.std.proofs.Common.{◌≡◌, ℕ, true, false, List, [], ◌∷◌, ◌++◌, refl, sym, ap, ◌∙◌, subst, append_assoc, append-nil, inr, Result, Ok, Err}
 use Rattle.std.specs.Prelude.{Option}
 use Rattle.std.specs.List.{AllByRecursion}
-use Rattle.f2_model.specs.declared.requests.Request.{Request}
 use Rattle.f2_model.specs.declared.requests.Request.TheVariants as request
 use Rattle.f2_script.specs.declared.script.Line.{Line}
-use Rattle.f2_script.specs.declared.script.Line.TheVariants.{Mkfs, Call, Tree}
+use Rattle.f2_script.specs.declared.script.Line.TheVariants.{Skipped, Mkfs, Call, Tree}
 use Rattle.f2_script.specs.declared.script.Grammar.TheVariants as grammar
 use Rattle.f2_script.specs.declared.script.ScriptFault.{ScriptFault}
 use Rattle.f2_script.specs.declared.script.ScriptFault.TheVariants as fault
-use Rattle.f2_script.specs.Grammar.{IsFirstFault, AreLines, IsRequest, IsTooLong, Spells, lines_of}
+use Rattle.f2_script.specs.Grammar.{IsFirstFault, AreLines, IsTooLong, MayFollow, Spells, lines_of, takes}
 use Rattle.f2_top.specs.declared.status.Status.{Status}
 use Rattle.f2_top.specs.declared.status.Status.TheVariants as status
 use Rattle.f2_top.specs.Endings.{IsSilent, last_line}
@@ -21,36 +20,27 @@ use Rattle.std.specs.Io.KnownBytes.{Appends}
 use Rattle.std.proofs.KnownBytes.{Appends-nil, Appends-trans}
 use Rattle.f2_top.specs.Streams.{IsCutAfter}
 
--- the calls of the grammar can be played
-playable-request : (seat : ℕ) (r : Request) → IsRequest r → IsPlayable (Call seat r)
-playable-request seat (request.Create path) h = tt
-playable-request seat (request.Mkdir path) h = absurd h
-playable-request seat (request.Write path pieces) h = absurd h
-playable-request seat (request.Truncate path size) h = absurd h
-playable-request seat (request.Unlink path) h = absurd h
-playable-request seat (request.Rmdir path) h = absurd h
-playable-request seat (request.Rename from to) h = absurd h
-playable-request seat (request.Read path off len) h = absurd h
-playable-request seat (request.List path) h = absurd h
-playable-request seat (request.Fsync path) h = absurd h
-playable-request seat request.Sync h = absurd h
+-- a line that the grammar takes after the first can be played
+playable-line : (line : Line) → takes grammar.Replay line ≡ true → MayFollow true line → IsPlayable line
+playable-line (Mkfs blocks nat) taken follows = let e : true ≡ false = follows in absurd (cc)
+playable-line (Call seat (request.Create path)) taken follows = tt
+playable-line Tree taken follows = tt
+playable-line line taken follows = let e : false ≡ true = taken in absurd (cc)
 
 -- the lines of the grammar after the first can be played
 playable-lines : (texts : List (List ℕ)) (lines : List Line) → AreLines grammar.Replay true texts lines → AllByRecursion IsPlayable lines
 playable-lines [] [] h = tt
 playable-lines [] (line ∷ lines) h = absurd h
 playable-lines (text ∷ texts) [] h = absurd h
-playable-lines (text ∷ texts) (Mkfs blocks nat ∷ lines) h = let e : true ≡ false = h.0.1 in absurd (cc)
-playable-lines (text ∷ texts) (Call seat r ∷ lines) h = (playable-request seat r h.0.0.0.2, playable-lines texts lines h.1)
-playable-lines (text ∷ texts) (Tree ∷ lines) h = (tt, playable-lines texts lines h.1)
+playable-lines (text ∷ texts) (line ∷ lines) h = (playable-line line h.0.1.0 h.0.1.1, playable-lines texts lines h.1)
 
 playable-script : (texts : List (List ℕ)) (lines : List Line) → AreLines grammar.Replay false texts lines → IsPlayableScript lines
 playable-script [] [] h = tt
 playable-script [] (line ∷ lines) h = absurd h
 playable-script (text ∷ texts) [] h = absurd h
 playable-script (text ∷ texts) (Mkfs blocks nat ∷ lines) h = playable-lines texts lines h.1
-playable-script (text ∷ texts) (Call seat r ∷ lines) h = let e : false ≡ true = h.0.1 in absurd (cc)
-playable-script (text ∷ texts) (Tree ∷ lines) h = let e : false ≡ true = h.0.1 in absurd (cc)
+playable-script (text ∷ texts) (Skipped ∷ lines) h = let e : false ≡ true = h.0.1.0 in absurd (cc)
+playable-script (text ∷ texts) (line ∷ lines) h = let e : false ≡ true = h.0.1.1 in absurd (cc)
 
 pub Spells-playable : (bytes : List ℕ) (lines : List Line) → Spells grammar.Replay bytes lines → IsPlayableScript lines
 Spells-playable bytes lines h = playable-script (lines_of bytes) lines h

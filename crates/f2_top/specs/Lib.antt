@@ -5,4 +5,5 @@ pub mod Reads
 pub mod Streams
 pub mod Runs
 pub mod Replay
+pub mod Due
 pub mod Words

@@ -78,11 +78,12 @@ pub record PlaysTree (state : State) (part : Part) : Type 0 where
   pub same : part.after ≡ state
   pub text : part.text ≡ tree_shown (live_where_up state)
 
--- what one line comes to from a state; `mkfs` begins a script, and stands nowhere else
+-- what one line comes to from a state; `mkfs` begins a script, and stands nowhere else, and no other line
+-- is played so far
 abbrev pub PlaysLine : Limits → State → Line → Part → Type 0
-PlaysLine limits state (Mkfs blocks nat) part = ⊥
 PlaysLine limits state (Call seat request) part = PlaysCall limits state seat request part
 PlaysLine limits state Tree part = PlaysTree state part
+PlaysLine limits state _ part = ⊥
 
 -- what lines come to one after another, from a state to another
 abbrev pub PlaysLines : Limits → State → List Line → List Part → State → Type 0
@@ -119,5 +120,4 @@ PlaysScript [] text = text ≡ []
 PlaysScript (Mkfs blocks nat ∷ lines) text =
     let extent : Extent = record { blocks = blocks; nat = nat } in
     (geometry_of extent ≡ Ok extent) × PlaysImage extent lines text
-PlaysScript (Call seat request ∷ lines) text = ⊥
-PlaysScript (Tree ∷ lines) text = ⊥
+PlaysScript (_ ∷ lines) text = ⊥

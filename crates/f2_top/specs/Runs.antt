@@ -22,16 +22,14 @@ use Rattle.f2_top.specs.Streams.{IsCutAfter}
 -- the lines that follow a `mkfs` line so far
 abbrev pub IsPlayable : Line → Type 0
 IsPlayable (Call seat (Create path)) = Unit {0}
-IsPlayable (Call seat _) = ⊥
 IsPlayable Tree = Unit {0}
-IsPlayable (Mkfs blocks nat) = ⊥
+IsPlayable _ = ⊥
 
 -- the lines that a script may be so far: none, or a `mkfs` line and lines that follow it
 abbrev pub IsPlayableScript : List Line → Type 0
 IsPlayableScript [] = Unit {0}
 IsPlayableScript (Mkfs blocks nat ∷ lines) = AllByRecursion IsPlayable lines
-IsPlayableScript (Call seat request ∷ lines) = ⊥
-IsPlayableScript (Tree ∷ lines) = ⊥
+IsPlayableScript (_ ∷ lines) = ⊥
 
 -- a line printed a text, and led from a state to another
 pub record PlaysAs (limits : Limits) (from : State) (line : Line) (text : List ℕ) (to : State) : Type 0 where

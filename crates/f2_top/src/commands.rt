@@ -1,6 +1,7 @@
 //! The top calls.
-ghost use Rattle.std.specs.Prelude.{◌≡◌, ◌≤◌, ◌⊎◌, ◌↔◌, IsTrue, map, string_bytes};
+ghost use Rattle.std.specs.Prelude.{◌≡◌, ◌≤◌, ◌⊎◌, ◌↔◌, ℕ, List, IsTrue, map, string_bytes};
 ghost use Rattle.f2_disk.specs.Faults.{Rose};
+ghost use Rattle.f2_top.specs.Due.{IsTaken, IsDue};
 ghost use Rattle.f2_top.specs.Endings.{IsSilent};
 ghost use Rattle.f2_top.specs.Words.{IsReplay};
 ghost use Rattle.f2_top.specs.Replay.{Finishes, IsReplayed, IsRefused};
@@ -49,6 +50,10 @@ pub fn run_plain<S: Source, K: Sink, B: Bench, D: Disk>(
     ensures replayed { IsReplay (map string_bytes words.now)
         → IsReplayed (S.remaining source.old) (S.remaining source.new) (K.written sink.old) (K.written sink.new) result.0 }
 
+    // Each status comes exactly where the bytes are due it, unless a fault or want of memory comes between.
+    ensures due { IsReplay (map string_bytes words.now)
+        → (bytes : List ℕ) → IsTaken (S.remaining source.old) (S.remaining source.new) bytes → IsDue bytes result.0 }
+
     // Other words are no command: nothing is read, and only that is said.
     ensures usage { ¬ (IsReplay (map string_bytes words.now)) → IsRefused (K.written sink.old) (K.written sink.new) result.0 }
     ensures unread { ¬ (IsReplay (map string_bytes words.now)) → source.new ≡ source.old }
@@ -80,6 +85,8 @@ pub fn run<R: Threads + Wait + Sync, S: Source, K: Sink, B: Bench, D: Disk + Sen
 ) -> (Status, B, D)
     ensures replayed { IsReplay (map string_bytes words.now)
         → IsReplayed (S.remaining source.old) (S.remaining source.new) (K.written sink.old) (K.written sink.new) result.0 }
+    ensures due { IsReplay (map string_bytes words.now)
+        → (bytes : List ℕ) → IsTaken (S.remaining source.old) (S.remaining source.new) bytes → IsDue bytes result.0 }
 
     ensures usage { ¬ (IsReplay (map string_bytes words.now)) → IsRefused (K.written sink.old) (K.written sink.new) result.0 }
     ensures unread { ¬ (IsReplay (map string_bytes words.now)) → source.new ≡ source.old }

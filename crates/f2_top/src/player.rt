@@ -99,9 +99,9 @@ fn play_line<B: Disk>(alloc: Global, core: &mut Core<B>, line: Line) -> Result<V
     ensures limits { core.new.limits ≡ core.old.limits }
 {
     match line {
-        Line::Mkfs { .. } => unreachable!(),
         Line::Call { seat, request } => play_call(alloc, core, seat, request),
         Line::Tree => play_tree(alloc, core),
+        _ => unreachable!(),
     }
 }
 
