@@ -1,0 +1,11 @@
+-- Lemmas on the calls.
+pub mod Ranges
+pub mod Cuts
+pub mod Copied
+pub mod Listed
+pub mod Agreed
+pub mod Counted
+pub mod Results
+pub mod Summed
+pub mod Found
+pub mod Fitting

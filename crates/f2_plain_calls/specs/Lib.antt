@@ -1,0 +1,2 @@
+-- What the calls ask of what they are given.
+pub mod Given
