@@ -1,0 +1,3 @@
+-- What contracts see of the plain machine's state.
+pub mod Parts
+pub mod Seen
