@@ -1,0 +1,2 @@
+-- What the reasons for a checkpoint speak of.
+pub mod Boths
