@@ -10,6 +10,8 @@ use Rattle.f2_image.specs.Nodes.{node_address}
 use Rattle.f2_image.specs.Bases.{IsBase}
 use Rattle.f2_image.specs.Chains.{chain, AreMarks}
 use Rattle.f2_image.specs.Reached.{IsNode, IsBasePage}
+use Rattle.f2_image.specs.Faults.{IsSound}
+use Rattle.f2_image.specs.Meanings.{MeansAt}
 
 -- an image has one checkpoint at most, and with it one base and one list of marks
 abbrev pub OneCheckpoint : Type 0
@@ -20,6 +22,10 @@ OneBase = (image : Image) (point : Checkpoint) (a b : Rows) → IsBase image poi
 
 abbrev pub OneListOfMarks : Type 0
 OneListOfMarks = (image : Image) (point : Checkpoint) (base : Rows) (a b : List Mark) → AreMarks image point base a → AreMarks image point base b → a ≡ b
+
+-- an image that is sound has a base and a list of marks, and by the three laws above no other
+abbrev pub SoundMeans : Type 0
+SoundMeans = (image : Image) (point : Checkpoint) → IsCheckpoint image point → IsSound image point → (base : Rows) × ((marks : List Mark) × MeansAt image point base marks)
 
 -- a chain ends within one block more than a third of the node zone
 abbrev pub ChainsEnd : Type 0

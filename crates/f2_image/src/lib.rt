@@ -10,4 +10,4 @@
 
 mod laws;
 
-pub use laws::{chains_end, one_meaning, same_blocks_same_base};
+pub use laws::{chains_end, one_meaning, same_blocks_same_base, sound_images_mean};
