@@ -1,0 +1,74 @@
+-- States from which a crash leaves nothing but sound trees: what every event keeps.
+use Rattle.std.specs.Prelude.{◌≡◌, ◌≢◌, ℕ, ◌≤◌, false, List, map as map_list, take, length, Some}
+use Rattle.std.specs.Ordering.{nat_cmp}
+use Rattle.std.specs.FinMap as map
+use Rattle.std.specs.FinSet as set
+use Rattle.f2_model.specs.Tree.{Rows, ROOT}
+use Rattle.f2_model.specs.State.{State, Mark, Mode, Shut, Mounting, Up, Stage, Flight, InFsync, InCheck, Inos, rolled, initial}
+use Rattle.f2_model.specs.Step.{Event, Faults, Turn, Step}
+use Rattle.f2_model.specs.declared.bounds.Limits.{Limits}
+use Rattle.f2_model.specs.declared.replies.Plan.{Plan}
+use Rattle.f2_model.specs.declared.rows.Row.{Row}
+use Rattle.f2_model.specs.declared.rows.Kind.TheVariants.{Regular}
+use Rattle.f2_held.specs.Recovered.{IsOneOf}
+use Rattle.f2_room_laws.specs.SoundTrees.{IsSoundTree}
+use Rattle.f2_room_laws.specs.Marking.{RowsHaveRoom}
+
+-- calls in flight by their seats
+abbrev pub Flights : Type 0
+Flights = map.FinMap nat_cmp Flight
+
+-- an fsync of a file is in flight
+abbrev pub IsFrozen : Flights → ℕ → Type 0
+IsFrozen flights ino = (seat : ℕ) × ((stage : Stage) × (map.get flights seat ≡ Some (InFsync ino stage)))
+
+-- a file in fsync: its row is a regular file's, the base has its directory, and no other row of a rolled tree has its name there
+pub record IsReady (live base tree : Rows) (ino : ℕ) : Type 0 where
+  pub row : Row
+  pub there : map.get live ino ≡ Some row
+  pub regular : row.kind ≡ Regular
+  pub parent : (up : Row) × (map.get base row.parent ≡ Some up)
+  pub free : (at : ℕ) (other : Row) → map.get tree at ≡ Some other → at ≢ ROOT → other.parent ≡ row.parent → other.name ≡ row.name → at ≡ ino
+
+-- there is room for the rows of base and marks together with those of the files in fsync
+pub record FilesHaveRoom (limits : Limits) (live base : Rows) (marks : List Mark) (flights : Flights) : Type 0 where
+  pub rows : List Row
+  pub room : RowsHaveRoom limits base marks rows
+  pub frozen : (ino : ℕ) (row : Row) → IsFrozen flights ino → map.get live ino ≡ Some row → IsOneOf row rows
+
+-- what holds of an open volume between two checkpoints
+pub record IsRolling (limits : Limits) (live base : Rows) (marks : List Mark) (flights : Flights) (logged : Inos) : Type 0 where
+  -- the base with all marks is sound, and the marks are files'
+  pub whole : IsSoundTree limits (rolled base marks)
+  pub regular : (row : Row) → IsOneOf row (map_list (λ mark. mark.row) marks) → row.kind ≡ Regular
+  -- it has the inos of the base, and else those of the log alone
+  pub kept : (ino : ℕ) (row : Row) → map.get base ino ≡ Some row → (now : Row) × (map.get (rolled base marks) ino ≡ Some now)
+  pub known : (ino : ℕ) (row : Row) → map.get (rolled base marks) ino ≡ Some row → set.contains logged ino ≡ false → (before : Row) × (map.get base ino ≡ Some before)
+  -- a row of the live tree is of the kind that it has at the same ino
+  pub kinds : (ino : ℕ) (one other : Row) → map.get live ino ≡ Some one → map.get (rolled base marks) ino ≡ Some other → one.kind ≡ other.kind
+  -- each file in fsync may be marked
+  pub files : (ino : ℕ) → IsFrozen flights ino → IsReady live base (rolled base marks) ino
+  pub space : (ino : ℕ) → IsFrozen flights ino → FilesHaveRoom limits live base marks flights
+
+-- what a mode asks: nothing of a closed volume, one thing of one that is being mounted, another of an open one
+abbrev pub InMode : Mode → Type 0 → Type 0 → Type 0
+InMode Shut found rolling = Unit {0}
+InMode Mounting found rolling = found
+InMode Up found rolling = rolling
+
+-- a state of which a crash leaves nothing but sound trees, now and after any event
+pub record IsSoundState (limits : Limits) (state : State) : Type 0 where
+  pub live : IsSoundTree limits state.live
+  pub pending : (tree : Rows) → state.pending ≡ Some tree → IsSoundTree limits tree
+  pub remains : (k : ℕ) → state.acknowledged ≤ k → k ≤ length state.marks → IsSoundTree limits (rolled state.base (take k state.marks))
+  -- a checkpoint in flight is alone
+  pub alone : (seat other : ℕ) (plan : Plan) (flight : Flight) → map.get state.flights seat ≡ Some (InCheck plan) → map.get state.flights other ≡ Some flight → other ≡ seat
+  pub mode : InMode state.mode ((ino : ℕ) → IsFrozen state.flights ino → ⊥) (IsRolling limits state.live state.base state.marks state.flights state.logged)
+
+-- a state of which nothing is known but that a mount finds a sound tree is sound
+abbrev pub InitialIsSound : Type 0
+InitialIsSound = (limits : Limits) (base : Rows) (marks : List Mark) → IsSoundTree limits (rolled base marks) → IsSoundState limits (initial base marks)
+
+-- each event leaves a sound state sound
+abbrev pub EventsKeepStatesSound : Type 0
+EventsKeepStatesSound = (limits : Limits) (faults : Faults) (state : State) (event : Event) (turn : Turn) → Step limits faults state event turn → IsSoundState limits state → IsSoundState limits turn.after
