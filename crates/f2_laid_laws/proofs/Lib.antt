@@ -1,0 +1,19 @@
+-- Proofs of the laws about images that are laid out plainly.
+pub mod Addresses
+pub mod Base
+pub mod Blocks
+pub mod Counts
+pub mod Depths
+pub mod Differ
+pub mod Homes
+pub mod Listings
+pub mod Members
+pub mod Nodes
+pub mod NoLog
+pub mod One
+pub mod OnePoint
+pub mod Refuted
+pub mod Sound
+pub mod Table
+pub mod Trees
+pub mod Values
