@@ -1,0 +1,31 @@
+-- Where a call in flight stands, when the flusher may write, and what the next event comes to.
+use Rattle.std.specs.Prelude.{◌≡◌, ℕ, true, false, nat_le, is_some, Some}
+use Rattle.std.specs.FinMap as map
+use Rattle.f2_model.specs.State.{State, Part, InFsync}
+use Rattle.f2_model.specs.Step as machine
+use Rattle.f2_model.specs.declared.replies.Step as step_type
+use Rattle.f2_model.specs.declared.replies.Tick as tick_type
+use Rattle.f2_plain_state.specs.Seen.{Seen}
+use Rattle.f2_plain.specs.declared.events.Choices.{Choices}
+use Rattle.f2_plain.specs.Choosing.{ComesTo}
+
+-- a seat's call is an fsync of a file that is at this part, and the volume isn't closed
+pub record IsAt (state : State) (seat ino : ℕ) (part : Part) : Type 0 where
+  pub place : ℕ
+  pub flight : map.get state.flights seat ≡ Some (InFsync ino (record { part = part; place = place }))
+  pub unshut : machine.is_shut state.mode ≡ false
+
+-- the next event of a seat's call came to this step, whatever a machine is told to choose elsewhere
+abbrev pub GoesTo : Seen → Seen → ℕ → step_type.Step → Type 0
+GoesTo old new seat step = (choices : Choices) → ComesTo choices old new (machine.Go seat) (machine.Stepped step)
+
+-- the flusher may look for a block to write: the volume is open, the history has room, nobody makes a checkpoint, and something is dirty
+pub record MayTick (state : State) : Type 0 where
+  pub up : machine.is_up state.mode ≡ true
+  pub early : nat_le machine.MOST_ENTRIES state.entries ≡ false
+  pub alone : is_some (machine.checking_seat state) ≡ false
+  pub dirty : machine.is_clean state ≡ false
+
+-- an event of the flusher came to this, whatever a machine is told to choose elsewhere
+abbrev pub TicksTo : Seen → Seen → tick_type.Tick → Type 0
+TicksTo old new tick = (choices : Choices) → ComesTo choices old new machine.Tick (machine.Ticked tick)

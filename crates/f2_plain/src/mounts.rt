@@ -1,0 +1,87 @@
+//! Mounts and unmounts.
+ghost use Rattle.std.specs.Prelude.{◌≡◌, All, IfOk, OnOk, OnErr, length, map as map_list};
+ghost use Rattle.f2_model.specs.State as state;
+ghost use Rattle.f2_model.specs.Step as machine;
+ghost use Rattle.f2_plain.specs.Choosing.{ComesTo, marks_left};
+ghost use Rattle.f2_plain.specs.Events.{answer_of};
+ghost use Rattle.f2_plain.specs.Sound.{IsFittingMark, IsSound};
+ghost use Rattle.f2_plain_calls.specs.Given.{IsKeyed};
+ghost use Rattle.f2_plain_state.specs.Parts.{mark_of};
+ghost use Rattle.f2_plain_state.specs.Seen.{after_turn};
+
+use crate::events::{Answer, Choices, Extent};
+use f2_model::{Begun, Plan, Reply, Tree};
+use f2_plain_calls::{copy_row, copy_tree};
+use f2_plain_state::{Mark, Mode, Plain};
+use std::alloc::{AllocError, Global};
+
+/// A base with marked rows put in place, in order.
+fn rolled(alloc: Global, base: &Tree, marks: &[Mark]) -> Result<Tree, AllocError>
+    requires base { IsKeyed base.now }
+    requires marks { All IsFittingMark (map_list mark_of marks.now) }
+    ensures { IfOk result (λ tree. tree ≡ state.rolled base.now (map_list mark_of marks.now)) }
+{
+    let mut tree = copy_tree(alloc, base)?;
+    for mark in marks {
+        tree.put(copy_row(alloc, &mark.row)?)?;
+    }
+    Ok(tree)
+}
+
+/// A mount finds the base with the marks that are left to it.
+fn find_marks(alloc: Global, plain: &mut Plain, choices: Choices) -> Result<Answer, AllocError>
+    requires sound { IsSound plain.old }
+    ensures told { IfOk result (λ answer. answer_of answer ≡ machine.Found (length (marks_left choices.marks plain.old.state))) }
+    ensures ok { OnOk result (plain.new ≡ record (after_turn plain.old (machine.found plain.old.state plain.old.state.base (marks_left choices.marks plain.old.state) 0)) { blocks = choices.blocks }) }
+    ensures err { OnErr result (plain.new ≡ plain.old) }
+{
+    let count = match choices.marks {
+        Extent::Fewest => plain.acknowledged().min(plain.marks().len()),
+        Extent::Most => plain.marks().len(),
+    };
+    let rows = u32::try_from(count).map_err(|_| AllocError)?;
+    let live = rolled(alloc, plain.base(), &plain.marks()[..count])?;
+    plain.finds_marks(count, live, choices.blocks)?;
+    Ok(Answer::Found(rows))
+}
+
+/// A mount begins. Where memory is refused nothing changed.
+pub(crate) fn mount(
+    alloc: Global,
+    plain: &mut Plain,
+    choices: Choices,
+) -> Result<Answer, AllocError>
+    requires sound { IsSound plain.old }
+    ensures ok { IfOk result (λ answer. ComesTo choices plain.old plain.new machine.Mount (answer_of answer)) }
+    ensures err { OnErr result (plain.new ≡ plain.old) }
+    ensures sound { IsSound plain.new }
+{
+    if plain.mode() != Mode::Shut {
+        return Ok(Answer::Mounted);
+    }
+    match plain.pending() {
+        Some(tree) if choices.pending => {
+            let (base, live) = (copy_tree(alloc, tree)?, copy_tree(alloc, tree)?);
+            plain.finds_pending(base, live, choices.blocks)?;
+            Ok(Answer::Found(0))
+        }
+        _ => find_marks(alloc, plain, choices),
+    }
+}
+
+/// An unmount begins. Where memory is refused nothing changed.
+pub(crate) fn unmount(plain: &mut Plain, choices: Choices) -> Result<Begun, AllocError>
+    requires sound { IsSound plain.old }
+    ensures ok { IfOk result (λ begun. ComesTo choices plain.old plain.new machine.Unmount (machine.Began begun)) }
+    ensures err { OnErr result (plain.new ≡ plain.old) }
+    ensures sound { IsSound plain.new }
+{
+    if plain.mode() != Mode::Up {
+        return Ok(Begun::Replied(Reply::Closed));
+    }
+    if let Some(by) = plain.flights().least() {
+        return Ok(Begun::Replied(Reply::Busy { by }));
+    }
+    plain.begins_unmount(choices.blocks)?;
+    Ok(Begun::Going(Plan::Sync))
+}
