@@ -1,8 +1,9 @@
 ghost use Rattle.std.specs.Prelude.{◌≡◌, ◌<◌, ◌≤◌, [], Some, IfOk, OnOk, OnErr, IfSome, is_err, length, option_map, true};
 ghost use Rattle.f2_disk.specs.Bench.{BenchState, meter_of, write_fails, after_write};
-ghost use Rattle.f2_disk.specs.Contents.{IsWritten, IsWriteFailed, last_of, list_at, flushed};
-ghost use Rattle.f2_disk.specs.Meter.{HasFailed, IsWithin};
-ghost use Rattle.f2_disk.specs.Plans.{no_plans, is_due, after_call, answered};
+ghost use Rattle.f2_disk.specs.Contents.{IsImage, IsWritten, IsWriteFailed, blank, last_of, list_at, flushed};
+ghost use Rattle.f2_disk.specs.Meter.{HasFailed, HasMoreRoom, IsCalm, IsWithin, MayPlanOne};
+ghost use Rattle.f2_disk.specs.Pick.{crash_image, crashed};
+ghost use Rattle.f2_disk.specs.Plans.{no_plans, is_due, after_call, answered, planned, sooner};
 ghost use Rattle.f2_disk.specs.declared.bench.CallKind.TheVariants.{Read, Flush};
 
 use crate::plans::Plans;
@@ -110,26 +111,54 @@ impl Disk for MemBench {
 }
 
 impl Bench for MemBench {
-    fn start(&mut self, blocks: u32) -> Result<(), AllocError> {
+    /// The room stays.
+    fn start(&mut self, blocks: u32) -> Result<(), AllocError>
+        ensures blank { OnOk result (self.new.lists ≡ blank blocks) }
+        ensures calm { OnOk result (IsCalm blocks (meter_of self.old) (meter_of self.new)) }
+        ensures room { OnOk result (self.new.spare ≡ self.old.spare) }
+        ensures plans { OnOk result (self.new.plans ≡ no_plans self.old.plans.faults) }
+        ensures same { OnErr result (self.new ≡ self.old) }
+    {
         self.store.start(blocks)?;
         self.plans.forget();
         Ok(())
     }
 
-    fn ready(&mut self, n: u32) -> Result<(), AllocError> {
+    fn ready(&mut self, n: u32) -> Result<(), AllocError>
+        ensures room { OnOk result (n ≤ self.new.spare) }
+        ensures kept { self.new.lists ≡ self.old.lists }
+        ensures same { HasMoreRoom (meter_of self.old) (meter_of self.new) }
+        ensures plans { self.new.plans ≡ self.old.plans }
+    {
         self.store.ready(n)
     }
 
-    fn crash(&mut self, pick: u64) {
+    /// The room stays.
+    fn crash(&mut self, pick: u64)
+        ensures crashed { self.new.lists ≡ crashed pick self.old.lists }
+        ensures image { IsImage self.old.lists (crash_image pick self.old.lists) }
+        ensures calm { IsCalm (length self.old.lists) (meter_of self.old) (meter_of self.new) }
+        ensures room { self.new.spare ≡ self.old.spare }
+        ensures plans { self.new.plans ≡ no_plans self.old.plans.faults }
+    {
         self.store.crash(pick);
         self.plans.forget();
     }
 
-    fn fail_at(&mut self, kind: CallKind, n: u32) {
+    fn fail_at(&mut self, kind: CallKind, n: u32)
+        requires { 1 ≤ n }
+        ensures after { self.new ≡ record self.old { plans = planned kind n self.old.plans } }
+        ensures planned { MayPlanOne (meter_of self.old) (meter_of self.new) }
+    {
         self.plans.fail_at(kind, n);
     }
 
-    fn stop_after(&mut self, n: u32) {
+    fn stop_after(&mut self, n: u32)
+        ensures after { self.new ≡ record self.old {
+          plans = record self.old.plans { stop = sooner n self.old.plans.stop };
+        } }
+        ensures stopped { meter_of self.new ≡ record (meter_of self.old) { stopped = true } }
+    {
         self.plans.stop_after(n);
     }
 }

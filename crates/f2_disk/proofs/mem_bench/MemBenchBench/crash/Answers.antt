@@ -1,8 +1,6 @@
-use Rattle.std.proofs.Common.{ap, ◌∙◌, refl, arith}
-use Rattle.f2_disk.specs.Bench.{BenchState}
+use Rattle.std.proofs.Common.{refl, arith}
 use Rattle.f2_disk.specs.Contents.{Contents, IsImage}
-use Rattle.f2_disk.specs.Pick.{crash_image, crashed}
-use Rattle.f2_disk.specs.Store.{Stored}
+use Rattle.f2_disk.specs.Pick.{crash_image}
 use Rattle.f2_disk.proofs.PickLaws.{crash_is_image, length-crashed}
 use Rattle.f2_disk.proofs.mem_bench.MemBenchBench.crash.Goals as goal
 
@@ -10,7 +8,7 @@ pub returns-clause-image : goal.returns-clause-image
 returns-clause-image c =
     let lists : Contents = c.self.inside.store.lists in
     let image : IsImage lists (crash_image c.args.pick lists) = crash_is_image c.args.pick lists c.crash.ensures.whole.held in
-    (ap (λ (s : Stored). s.lists) c.crash.ensures.crashed ∙ ap (λ (b : BenchState). crashed c.args.pick b.lists) c.self.view_is, rw (← c.self.view_is) image)
+    rw (← c.self.view_is) image
 
 pub returns-clause-calm : goal.returns-clause-calm
 returns-clause-calm c =
