@@ -1,0 +1,16 @@
+pub mod Differ
+pub mod PageSteps
+pub mod ZoneSteps
+pub mod Values
+pub mod Counts
+pub mod InodeSteps
+pub mod TableSteps
+pub mod Items
+pub mod ZoneRanges
+pub mod NameMaps
+pub mod Bindings
+pub mod Dentries
+pub mod PlacePages
+pub mod DraftSteps
+pub mod DraftEnds
+pub mod PlanEnds

@@ -1,0 +1,12 @@
+pub mod Addresses
+pub mod Written
+pub mod Targets
+pub mod Laid
+pub mod Made
+pub mod Left
+pub mod Told
+pub mod Writes
+pub mod Root
+pub mod Cleared
+pub mod Saved
+pub mod First
