@@ -83,9 +83,9 @@ module _ (names : AllNames) (row : Row) where
       sound_more : (directory : ℕ) (name : List ℕ) (at : ℕ × Kind) → map.get (names_at (bound names row) directory) name ≡ Some at → (other : Row) × Contains (rows ++ row ∷ []) other × IsNamed directory name at other
       sound_more directory name at h = elim (cases_eq directory row.parent) [
         | inl e ↦ in_parent directory name at e (eq_by_cmp name_cmp name row.name) refl
-          (sym (get-insert nat_list_cmp_total (names_at names row.parent) row.name at_row name) ∙ ap (λ (m : Entries). map.get m name) (sym (names_at-same directory e)) ∙ h)
+            (sym (get-insert nat_list_cmp_total (names_at names row.parent) row.name at_row name) ∙ ap (λ (m : Entries). map.get m name) (sym (names_at-same directory e)) ∙ h)
         | inr ne ↦ let old = so_far.sound directory name at (ap (λ (m : Entries). map.get m name) (sym (names_at-other directory ne)) ∙ h) in
-          (old.0, Contains-append_left rows (row ∷ []) old.0 old.1, old.2)
+            (old.0, Contains-append_left rows (row ∷ []) old.0 old.1, old.2)
       ]
 
       complete_old : (other : Row) → map.contains_key (names_at names other.parent) other.name ≡ true → map.contains_key (names_at (bound names row) other.parent) other.name ≡ true
@@ -102,6 +102,6 @@ module _ (names : AllNames) (row : Row) where
             complete = λ other c ne. elim (Contains-push_cases rows row other c) [
               | inl old ↦ complete_old other (so_far.complete other old ne)
               | inr e ↦ subst (λ (r : Row). map.contains_key (names_at (bound names row) r.parent) r.name ≡ true) e
-                (ap (λ (m : Entries). map.contains_key m row.name) (names_at-same row.parent refl) ∙ here (names_at names row.parent))
+                  (ap (λ (m : Entries). map.contains_key m row.name) (names_at-same row.parent refl) ∙ here (names_at names row.parent))
             ];
           }

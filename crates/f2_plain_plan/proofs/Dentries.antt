@@ -111,15 +111,17 @@ module _ (extent : Extent) (tree : Rows) (storable : IsStorable extent tree) (na
     bound_each : AllByRecursion (λ e. IsBound tree directory (dentry_of (dent_of e)) × HasNameLength e.0) (entries (names_at names directory))
     bound_each = each_name (λ e. IsBound tree directory (dentry_of (dent_of e)) × HasNameLength e.0) (names_at names directory) (λ name at f.
         let named = are.sound directory name at f in
-        let here = subst (λ k. map.get tree k ≡ Some named.0) named.2.ino (keyed named.0 named.1) in
-        (record {
-          row = named.0;
-          there = here;
-          below = subst (λ k. k ≢ ROOT) named.2.ino named.2.below;
-          parent = named.2.parent;
-          named = named.2.named;
-          typed = ap type_of (sym named.2.kind) ∙ same_type named.0.kind;
-        }, subst HasNameLength named.2.named (good_length named.0.name (storable.good.names at.0 named.0 here (subst (λ k. k ≢ ROOT) named.2.ino named.2.below)))))
+        let here = subst (λ k. map.get tree k ≡ Some named.0) named.2.ino (keyed named.0 named.1) in (
+          record {
+            row = named.0;
+            there = here;
+            below = subst (λ k. k ≢ ROOT) named.2.ino named.2.below;
+            parent = named.2.parent;
+            named = named.2.named;
+            typed = ap type_of (sym named.2.kind) ∙ same_type named.0.kind;
+          },
+          subst HasNameLength named.2.named (good_length named.0.name (storable.good.names at.0 named.0 here (subst (λ k. k ≢ ROOT) named.2.ino named.2.below))),
+        ))
 
     each_bound : (es : List (List ℕ × (ℕ × Kind))) → AllByRecursion (λ e. IsBound tree directory (dentry_of (dent_of e)) × HasNameLength e.0) es → AllByRecursion (IsBound tree directory) (map_list dentry_of (map_list dent_of es))
     each_bound [] h = tt

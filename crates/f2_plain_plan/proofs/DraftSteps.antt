@@ -184,7 +184,7 @@ module _ (tree : Rows) (before : Draft) where
     pages_later : (ino page : ℕ) (place : Place) → map.get after.places ino ≡ Some place → page_at place page ≢ 0 → IsTaken before.pages after.pages (page_at place page)
     pages_later ino page place h ne = elim (which ino place h) [
       | inl here ↦ subst (λ (p : Place). IsTaken before.pages after.pages (page_at p page)) (sym here.1)
-        (taken_since before.pages draft.pages after.pages (page_at adds.place page) so_far.pages_grow (adds.pages.fresh page (subst (λ (p : Place). page_at p page ≢ 0) here.1 ne)))
+          (taken_since before.pages draft.pages after.pages (page_at adds.place page) so_far.pages_grow (adds.pages.fresh page (subst (λ (p : Place). page_at p page ≢ 0) here.1 ne)))
       | inr old ↦ still_taken before.pages draft.pages after.pages (page_at place page) pages_step (so_far.pages ino page place old ne)
     ]
 
@@ -290,7 +290,7 @@ module _ (tree : Rows) (before : Draft) where
             | inr old ↦ let one = so_far.only ino place old in (one.0, Contains-append_left done (row ∷ []) one.0 one.1, one.2)
           ];
           within = subst (All (IsPageOf after.places)) (sym adds.pages.added)
-            (All-append (IsPageOf after.places) draft.blocks.items adds.pages.more (All-weaker (IsPageOf draft.places) (IsPageOf after.places) page_later draft.blocks.items so_far.within)
-            (All-weaker (IsAmong adds.place.addresses) (IsPageOf after.places) page_here adds.pages.more adds.pages.within));
+              (All-append (IsPageOf after.places) draft.blocks.items adds.pages.more (All-weaker (IsPageOf draft.places) (IsPageOf after.places) page_later draft.blocks.items so_far.within)
+              (All-weaker (IsAmong adds.place.addresses) (IsPageOf after.places) page_here adds.pages.more adds.pages.within));
           once = once_later;
         }

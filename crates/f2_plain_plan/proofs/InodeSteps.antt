@@ -90,10 +90,10 @@ inode_more rows end row places place blocks after block low is there inode unlog
       more = so_far.more ++ one ∷ [];
       added = ap (λ l. l ++ one ∷ []) so_far.added ∙ append_assoc blocks so_far.more (one ∷ []);
       ats = map-append (λ (some : Planned). some.at) so_far.more (one ∷ [])
-        ∙ ap (λ l. l ++ place.at ∷ []) so_far.ats
-        ∙ ap (λ n. map_list f (take end rows) ++ n ∷ []) (sym here)
-        ∙ sym (ap (map_list f) (take_more rows end row low) ∙ map-append f (take end rows) (get_or rows end row ∷ []));
+          ∙ ap (λ l. l ++ place.at ∷ []) so_far.ats
+          ∙ ap (λ n. map_list f (take end rows) ++ n ∷ []) (sym here)
+          ∙ sym (ap (map_list f) (take_more rows end row low) ∙ map-append f (take end rows) (get_or rows end row ∷ []));
       inodes = All-more (WritesInode places (so_far.more ++ one ∷ [])) rows end row low
-        (All-weaker (WritesInode places so_far.more) (WritesInode places (so_far.more ++ one ∷ [])) (λ other w. record { place = w.place; there = w.there; block = w.block; inode = w.inode; unlogged = w.unlogged; written = Contains-append_left so_far.more (one ∷ []) _ w.written }) (take end rows) so_far.inodes)
-        (subst (WritesInode places (so_far.more ++ one ∷ [])) (sym is) (record { place = place; there = there; block = block; inode = inode; unlogged = unlogged; written = Contains-push so_far.more one }));
+          (All-weaker (WritesInode places so_far.more) (WritesInode places (so_far.more ++ one ∷ [])) (λ other w. record { place = w.place; there = w.there; block = w.block; inode = w.inode; unlogged = w.unlogged; written = Contains-append_left so_far.more (one ∷ []) _ w.written }) (take end rows) so_far.inodes)
+          (subst (WritesInode places (so_far.more ++ one ∷ [])) (sym is) (record { place = place; there = there; block = block; inode = inode; unlogged = unlogged; written = Contains-push so_far.more one }));
     }

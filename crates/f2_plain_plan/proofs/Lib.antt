@@ -14,3 +14,4 @@ pub mod PlacePages
 pub mod DraftSteps
 pub mod DraftEnds
 pub mod PlanEnds
+pub mod SmallTrees

@@ -165,17 +165,17 @@ module _ (contents : ℕ → Option (List ℕ)) (taken : Numbers) (blocks : List
       pages_later : (page : ℕ) → page < end + 1 → WritesPage (so_far.more ++ one ∷ []) (get_or addresses_later page 0) (contents page)
       pages_later page h = elim (cases_eq page end) [
         | inl e ↦ subst (λ p. WritesPage (so_far.more ++ one ∷ []) (get_or addresses_later p 0) (contents p)) (sym e)
-          (subst (λ a. WritesPage (so_far.more ++ one ∷ []) a (contents end)) (sym here)
-          (subst (WritesPage (so_far.more ++ one ∷ []) at) (sym there) (not_zero, Contains-push so_far.more one)))
+            (subst (λ a. WritesPage (so_far.more ++ one ∷ []) a (contents end)) (sym here)
+            (subst (WritesPage (so_far.more ++ one ∷ []) at) (sym there) (not_zero, Contains-push so_far.more one)))
         | inr ne ↦ subst (λ a. WritesPage (so_far.more ++ one ∷ []) a (contents page)) (sym (other_page page ne))
-          (page-append so_far.more (one ∷ []) _ (contents page) (so_far.pages page (omega arith)))
+            (page-append so_far.more (one ∷ []) _ (contents page) (so_far.pages page (omega arith)))
       ]
 
       fresh_later : (page : ℕ) → get_or addresses_later page 0 ≢ 0 → IsTaken taken later (get_or addresses_later page 0)
       fresh_later page h = elim (cases_eq page end) [
         | inl e ↦ subst (IsTaken taken later) (sym (ap (λ p. get_or addresses_later p 0) e ∙ here)) (record { zone = in_zone; free = free_before; now = now_in })
         | inr ne ↦ let old = so_far.fresh page (subst (λ a. a ≢ 0) (other_page page ne) h) in
-          subst (IsTaken taken later) (sym (other_page page ne)) (record { zone = old.zone; free = old.free; now = still_in _ old.now })
+            subst (IsTaken taken later) (sym (other_page page ne)) (record { zone = old.zone; free = old.free; now = still_in _ old.now })
       ]
 
       apart_later : (page more : ℕ) → get_or addresses_later page 0 ≢ 0 → get_or addresses_later page 0 ≡ get_or addresses_later more 0 → page ≡ more
@@ -183,13 +183,13 @@ module _ (contents : ℕ → Option (List ℕ)) (taken : Numbers) (blocks : List
         | inl p ↦ elim (cases_eq more end) [
           | inl m ↦ p ∙ sym m
           | inr m ↦
-            let same : get_or addresses more 0 ≡ at = sym (other_page more m) ∙ sym e ∙ ap (λ k. get_or addresses_later k 0) p ∙ here in
-            absurd (is_apart _ (so_far.fresh more (λ z. not_zero (sym same ∙ z))).now same)
+              let same : get_or addresses more 0 ≡ at = sym (other_page more m) ∙ sym e ∙ ap (λ k. get_or addresses_later k 0) p ∙ here in
+              absurd (is_apart _ (so_far.fresh more (λ z. not_zero (sym same ∙ z))).now same)
         ]
         | inr p ↦ elim (cases_eq more end) [
           | inl m ↦
-            let same : get_or addresses page 0 ≡ at = sym (other_page page p) ∙ e ∙ ap (λ k. get_or addresses_later k 0) m ∙ here in
-            absurd (is_apart _ (so_far.fresh page (λ z. not_zero (sym same ∙ z))).now same)
+              let same : get_or addresses page 0 ≡ at = sym (other_page page p) ∙ e ∙ ap (λ k. get_or addresses_later k 0) m ∙ here in
+              absurd (is_apart _ (so_far.fresh page (λ z. not_zero (sym same ∙ z))).now same)
           | inr m ↦ so_far.apart page more (subst (λ a. a ≢ 0) (other_page page p) h) (sym (other_page page p) ∙ e ∙ other_page more m)
         ]
       ]
@@ -221,5 +221,5 @@ module _ (contents : ℕ → Option (List ℕ)) (taken : Numbers) (blocks : List
             apart = apart_later;
             within = All-push (IsAmong addresses_later) so_far.more one (All-weaker (IsAmong addresses) (IsAmong addresses_later) among_later so_far.more so_far.within) (end, subst (λ a. a ≢ 0) (sym here) not_zero, sym here);
             once = subst AllDiffer (sym (map-append (λ (some : Planned). some.at) so_far.more (one ∷ []))) (differ-push (map_list (λ (some : Planned). some.at) so_far.more) at so_far.once
-              (recursion_from_All (λ x. x ≢ at) (map_list (λ (some : Planned). some.at) so_far.more) (All-map (λ x. x ≢ at) (λ (some : Planned). some.at) so_far.more (All-weaker (IsAmong addresses) (λ some. some.at ≢ at) is_not so_far.more so_far.within))));
+                (recursion_from_All (λ x. x ≢ at) (map_list (λ (some : Planned). some.at) so_far.more) (All-map (λ x. x ≢ at) (λ (some : Planned). some.at) so_far.more (All-weaker (IsAmong addresses) (λ some. some.at ≢ at) is_not so_far.more so_far.within))));
           }

@@ -41,10 +41,10 @@ module _ (extent : Extent) (tree : Rows) (storable : IsStorable extent tree) whe
   name_fits : (ino : ℕ) (row : Row) → map.get tree ino ≡ Some row → length row.name ≤ NAME_BYTES
   name_fits ino row there = elim (cases_eq ino ROOT) [
     | inl e ↦
-      let root = storable.good.root in
-      let same = same_some row root.0 (sym there ∙ ap (map.get tree) e ∙ root.1) in
-      let none : length row.name ≡ 0 = ap (λ (r : Row). length r.name) same ∙ ap length root.2.name in
-      omega (arith, none)
+        let root = storable.good.root in
+        let same = same_some row root.0 (sym there ∙ ap (map.get tree) e ∙ root.1) in
+        let none : length row.name ≡ 0 = ap (λ (r : Row). length r.name) same ∙ ap length root.2.name in
+        omega (arith, none)
     | inr ne ↦ (good_length row.name (storable.good.names ino row there ne)).most
   ]
 
@@ -68,7 +68,7 @@ rises_more extent second end h =
     record {
       differ = subst AllDiffer (sym more) (differ-push xs here h.differ (each-weaker (λ at. at < here) (λ at. at ≢ here) (λ at low e. absurd (omega (arith, e))) xs h.under));
       under = subst (AllByRecursion (λ at. at < nat_address extent (end + 1) second)) (sym more)
-        (each-push (λ at. at < nat_address extent (end + 1) second) xs here (each-weaker (λ at. at < here) (λ at. at < nat_address extent (end + 1) second) (λ at low. omega (arith, rises)) xs h.under) rises);
+          (each-push (λ at. at < nat_address extent (end + 1) second) xs here (each-weaker (λ at. at < here) (λ at. at < nat_address extent (end + 1) second) (λ at low. omega (arith, rises)) xs h.under) rises);
     }
 
 table_rises : (extent : Extent) (second : Bool) (end : ℕ) → Rises extent second end
@@ -220,9 +220,9 @@ module _ (next : Next) (tree : Rows) (old places : PlaceMap) (data_blocks inode_
   all_differ : AllDiffer (map_list at_one all)
   all_differ =
       let d = subst AllDiffer (sym inode_blocks_ats) (differ-append (map_list at_one data_blocks) (map_list at_one inodes.more) draft.once inodes_differ
-        (parted (data_start extent) (map_list at_one data_blocks) (map_list at_one inodes.more) data_from (each-weaker (λ at. (node_start extent ≤ at) × (at < data_start extent)) (λ at. at < data_start extent) (λ at h. h.1) (map_list at_one inodes.more) inodes_range))) in
+      (parted (data_start extent) (map_list at_one data_blocks) (map_list at_one inodes.more) data_from (each-weaker (λ at. (node_start extent ≤ at) × (at < data_start extent)) (λ at. at < data_start extent) (λ at h. h.1) (map_list at_one inodes.more) inodes_range))) in
       let t = subst AllDiffer (sym table_blocks_ats) (differ-append (map_list at_one inode_blocks) (map_list at_one tables.more) d (subst AllDiffer (sym tables.ats) (table_rises extent next.second extent.nat).differ)
-        (parted (node_start extent) (map_list at_one inode_blocks) (map_list at_one tables.more) inode_blocks_from (each-weaker (λ at. (8 ≤ at) × (at < node_start extent)) (λ at. at < node_start extent) (λ at h. h.1) (map_list at_one tables.more) tables_range))) in
+      (parted (node_start extent) (map_list at_one inode_blocks) (map_list at_one tables.more) inode_blocks_from (each-weaker (λ at. (8 ≤ at) × (at < node_start extent)) (λ at. at < node_start extent) (λ at h. h.1) (map_list at_one tables.more) tables_range))) in
       subst AllDiffer (sym all_ats) (differ-append (map_list at_one table_blocks) (map_list at_one last_blocks) t last_differ (parted 8 (map_list at_one table_blocks) (map_list at_one last_blocks) table_blocks_from last_low))
 
   pub is_plan : IsPlanOf tree old stored all tail
@@ -231,20 +231,20 @@ module _ (next : Next) (tree : Rows) (old places : PlaceMap) (data_blocks inode_
         placed = draft.placed;
         apart = draft.apart;
         rows = λ ino row there.
-          let w = inode_of_row ino row there in
-          let p = draft.rows ino row there in
-          let same = same_some p.place w.place (sym p.there ∙ w.there) in
-          record {
-            place = w.place;
-            there = w.there;
-            block = w.block;
-            inode = w.inode;
-            unlogged = w.unlogged;
-            written = inode_written w.place.at w.block w.written;
-            contents = p.contents;
-            content = p.content;
-            pages = λ number low. page_written (page_at w.place number) (p.contents number) (subst (λ (place : Place). WritesPage data_blocks (page_at place number) (p.contents number)) same (p.pages number low));
-          };
+            let w = inode_of_row ino row there in
+            let p = draft.rows ino row there in
+            let same = same_some p.place w.place (sym p.there ∙ w.there) in
+            record {
+              place = w.place;
+              there = w.there;
+              block = w.block;
+              inode = w.inode;
+              unlogged = w.unlogged;
+              written = inode_written w.place.at w.block w.written;
+              contents = p.contents;
+              content = p.content;
+              pages = λ number low. page_written (page_at w.place number) (p.contents number) (subst (λ (place : Place). WritesPage data_blocks (page_at place number) (p.contents number)) same (p.pages number low));
+            };
         only = draft.only;
         table = λ block low. let w = tables.tables block low in record { bytes = w.bytes; written = table_written (nat_address extent block next.second) w.bytes w.written; entries = w.entries };
         summary = (pack.summary, pack.empty, last_written summary_planned (0, omega arith, refl));

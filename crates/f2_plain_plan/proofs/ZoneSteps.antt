@@ -48,8 +48,8 @@ node_more places end numbers after place low is so_far =
       count = so_far.count;
       few = let h = len-with_member after place.at in let f = so_far.few in omega (arith, h, f);
       has = All-more (λ (other : Place). set.contains (with_member after place.at).members other.at ≡ true) places end place low
-        (All-weaker (λ (other : Place). set.contains after.members other.at ≡ true) (λ (other : Place). set.contains (with_member after place.at).members other.at ≡ true) (λ other h. still-with_member after place.at other.at h) (take end places) so_far.has)
-        (subst (λ (other : Place). set.contains (with_member after place.at).members other.at ≡ true) (sym is) (contains-insert_same after.members place.at));
+          (All-weaker (λ (other : Place). set.contains after.members other.at ≡ true) (λ (other : Place). set.contains (with_member after place.at).members other.at ≡ true) (λ other h. still-with_member after place.at other.at h) (take end places) so_far.has)
+          (subst (λ (other : Place). set.contains (with_member after place.at).members other.at ≡ true) (sym is) (contains-insert_same after.members place.at));
     }
 
 -- whether there is a block
@@ -113,8 +113,8 @@ file_more places end numbers after later place low is so_far inserts =
       count = inserts.count ∙ so_far.count;
       few = let h = inserts.few in let f = so_far.few in let g = sum_by_more pages_of_place places end place low ∙ ap (λ p. sum_by pages_of_place (take end places) + pages_of_place p) is in omega (arith, h, f, g);
       has = All-more P places end place low
-        (All-weaker (λ (other : Place). (page : ℕ) → page_at other page ≢ 0 → set.contains after.members (page_at other page) ≡ true) P (λ other h page there. inserts.kept (page_at other page) (h page there)) (take end places) so_far.has)
-        (subst P (sym is) inserts.has);
+          (All-weaker (λ (other : Place). (page : ℕ) → page_at other page ≢ 0 → set.contains after.members (page_at other page) ≡ true) P (λ other h page there. inserts.kept (page_at other page) (h page there)) (take end places) so_far.has)
+          (subst P (sym is) inserts.has);
     }
   where
     P : Place → Type 0

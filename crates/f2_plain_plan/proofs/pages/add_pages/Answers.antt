@@ -29,11 +29,11 @@ loop-page-preserved c =
     let contents = content_at c.args.contents.now in
     elim c.match-get.branch [
       | in-Some+in_ok-addresses w ↦
-        rw (w.taken-is, w.blocks-is, w.addresses-is)
-        (put_there contents c.args.taken.now c.args.blocks.now.items c.loop-page.page c.loop-page.taken c.loop-page.blocks.items c.loop-page.addresses c.loop-page.invariant
-        w.in-Some.content.now (sym c.get.ensures ∙ ap option_copied w.in-Some.is) c.loop-page-test.true c.requires.first _ _ _ w.in_ok-addresses.ensures)
+          rw (w.taken-is, w.blocks-is, w.addresses-is)
+          (put_there contents c.args.taken.now c.args.blocks.now.items c.loop-page.page c.loop-page.taken c.loop-page.blocks.items c.loop-page.addresses c.loop-page.invariant
+          w.in-Some.content.now (sym c.get.ensures ∙ ap option_copied w.in-Some.is) c.loop-page-test.true c.requires.first _ _ _ w.in_ok-addresses.ensures)
       | in_default w ↦
-        rw (w.taken-is, w.blocks-is, w.addresses-is)
-        (not_there contents c.args.taken.now c.args.blocks.now.items c.loop-page.page c.loop-page.taken c.loop-page.blocks.items c.loop-page.addresses c.loop-page.invariant
-        (sym c.get.ensures ∙ ap option_copied w.in_default.is))
+          rw (w.taken-is, w.blocks-is, w.addresses-is)
+          (not_there contents c.args.taken.now c.args.blocks.now.items c.loop-page.page c.loop-page.taken c.loop-page.blocks.items c.loop-page.addresses c.loop-page.invariant
+          (sym c.get.ensures ∙ ap option_copied w.in_default.is))
     ]

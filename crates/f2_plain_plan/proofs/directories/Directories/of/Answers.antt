@@ -22,9 +22,9 @@ loop-row-preserved c =
     subst (λ (l : List Row). AreNamesOf l c.if-row-ne-ROOT.directories) (sym more)
     (elim c.if-row-ne-ROOT.branch [
       | then-row-ne-ROOT+in_ok-bind w ↦ subst (λ (names : AllNames). AreNamesOf (take c.loop-row.row-index rows ++ c.row-item.result.now ∷ []) names) (sym (w.directories-is ∙ w.in_ok-bind.ensures))
-        (row_more c.loop-row.directories c.row-item.result.now (take c.loop-row.row-index rows) c.loop-row.invariant w.if-row-ne-ROOT.true)
+          (row_more c.loop-row.directories c.row-item.result.now (take c.loop-row.row-index rows) c.loop-row.invariant w.if-row-ne-ROOT.true)
       | else-row-ne-ROOT w ↦ subst (λ (names : AllNames). AreNamesOf (take c.loop-row.row-index rows ++ c.row-item.result.now ∷ []) names) (sym w.directories-is)
-        (root_more c.loop-row.directories c.row-item.result.now (take c.loop-row.row-index rows) c.loop-row.invariant w.if-row-ne-ROOT.false)
+          (root_more c.loop-row.directories c.row-item.result.now (take c.loop-row.row-index rows) c.loop-row.invariant w.if-row-ne-ROOT.false)
     ])
 
 pub returns : goal.returns
