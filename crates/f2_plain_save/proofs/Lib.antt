@@ -10,3 +10,4 @@ pub mod Root
 pub mod Cleared
 pub mod Saved
 pub mod First
+pub mod Counted

@@ -18,7 +18,7 @@ use Rattle.f2_format.specs.Inode.{SIZE_LIMIT}
 use Rattle.f2_format.specs.Offsets.{inode_pages, node_count, nodes_over}
 use Rattle.f2_format.specs.Packing.{blocks_of_names}
 use Rattle.f2_model.specs.Rising.{rising}
-use Rattle.f2_model.specs.Tree.{ROOT, IsGoodTree, HasGoodPages, most_depth}
+use Rattle.f2_model.specs.Tree.{names_in, ROOT, IsGoodTree, HasGoodPages, most_depth}
 use Rattle.f2_model.specs.Count.{nodes_of_row, data_of_row, nodes_of_tree, data_of_tree, dentry_blocks}
 use Rattle.f2_model.specs.declared.rows.Row.{Row}
 use Rattle.f2_model.proofs.RisingLemmas.{rising-is}
@@ -35,10 +35,10 @@ rows_are = ap (map_list (λ e. e.1)) (entries-insert nat_cmp_total map.empty ROO
 pub empty_has : {X : Type 0} (k : ℕ) (x : X) → map.get (map.empty {X = X} {R = nat_cmp}) k ≡ Some x → ⊥
 empty_has k x held = none-some x (sym (get-empty nat_cmp k) ∙ held)
 
-there : map.get root_alone ROOT ≡ Some root_row
+pub there : map.get root_alone ROOT ≡ Some root_row
 there = grind (arith, gets)
 
-only : (ino : ℕ) (row : Row) → map.get root_alone ino ≡ Some row → (ino ≡ ROOT) × (row ≡ root_row)
+pub only : (ino : ℕ) (row : Row) → map.get root_alone ino ≡ Some row → (ino ≡ ROOT) × (row ≡ root_row)
 only ino row held = elim (cases_eq ino ROOT) [ inl e ↦ (e, same e) | inr apart ↦ absurd (empty_has ino row (sym (other apart) ∙ held)) ]
   where
     same : ino ≡ ROOT → row ≡ root_row
@@ -53,6 +53,9 @@ only ino row held = elim (cases_eq ino ROOT) [ inl e ↦ (e, same e) | inr apart
 no_names : rising (set.empty {R = slice_cmp nat_cmp}) ≡ []
 unfolding IsStrictlySortedBy
 no_names = rising-is nat_list_cmp_total (slice_cmp-IsAntisymmetric nat_cmp-IsAntisymmetric) set.empty [] tt (contains-empty (slice_cmp nat_cmp))
+
+pub root_names : rising (names_in (map.values root_alone) ROOT) ≡ []
+root_names = ap (λ rows. rising (names_in rows ROOT)) rows_are ∙ no_names
 
 no_blocks : dentry_blocks (root_row ∷ []) ROOT ≡ 0
 no_blocks = ap blocks_of_names no_names

@@ -16,10 +16,10 @@ first_or_rest {X} y ys x found = by_place found.0 found.1 found.2
     by_place zero less is = inl is
     by_place (suc k) less is = inr (k, omega arith, is)
 
-in_first : {X : Type 0} (y : X) (ys : List X) → Contains (y ∷ ys) y
+pub in_first : {X : Type 0} (y : X) (ys : List X) → Contains (y ∷ ys) y
 in_first y ys = (0, omega arith, refl)
 
-in_rest : {X : Type 0} (y : X) (ys : List X) (x : X) → Contains ys x → Contains (y ∷ ys) x
+pub in_rest : {X : Type 0} (y : X) (ys : List X) (x : X) → Contains ys x → Contains (y ∷ ys) x
 in_rest y ys x found = (suc found.0, omega (arith, found.1), found.2)
 
 pub in_none : {X : Type 0} (x : X) → Contains [] x → ⊥

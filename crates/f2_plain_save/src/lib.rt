@@ -3,7 +3,7 @@
 //! [`mkfs`] makes an image with the root alone, and [`save`] writes a tree as the checkpoint after another. Each takes
 //! its memory before it writes. A checkpoint is written so: all blocks but the tail of its pack, a flush, the tail, a
 //! flush. No block of the last checkpoint's tree, copy of the table or pack is written over, and the new pack counts
-//! only once its tail is there. So a crash at any time leaves the old tree laid out, or the new one.
+//! only once its tail is there. So a crash leaves the old tree laid out, or the new one.
 //!
 //! The layer above needs the clauses `saved` and `safe` of [`save`], which stand in `specs/Saves`. `specs/Writing` and
 //! `specs/Blanks` say what the parts leave on a disk. The three functions without a body are the laws behind it, about

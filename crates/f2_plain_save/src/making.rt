@@ -7,7 +7,7 @@ ghost use Rattle.f2_disk.specs.Meter.{HasFailed, IsWithin};
 ghost use Rattle.f2_laid.specs.Laid.{IsKept, root_alone};
 ghost use Rattle.f2_laid.specs.Planned.{IsPlanOf};
 ghost use Rattle.f2_pack.specs.declared.packs.Side.TheVariants as side;
-ghost use Rattle.f2_plain_save.specs.Saves.{IsMade, most_writes};
+ghost use Rattle.f2_plain_save.specs.Saves.{IsMade};
 ghost use Rattle.f2_plain_save.specs.Writing.{HasAsMany};
 
 use crate::blanks::write_blank;
@@ -28,8 +28,8 @@ const ROOT: u32 = 3;
 /// tells: version 1, side A and the first copy of the node address table.
 ///
 /// Memory is taken before the first write, so want of it changes nothing. Then come zeros in all blocks below the data
-/// zone, both superblocks, a flush, and the checkpoint as [`save`](crate::save) writes one. A crash before the end, or
-/// a write or a flush that fails, may leave anything.
+/// zone, both superblocks, a flush, and the checkpoint as [`save`](crate::save) writes one. After
+/// [`SaveFault::Write`], and after a crash in the middle, anything may be there.
 pub fn mkfs<D: Disk>(alloc: Global, disk: &mut D, geometry: Geometry) -> Result<Stored, SaveFault>
     requires { geometry.blocks ≤ (D.meter disk.old).blocks }
 
@@ -43,9 +43,10 @@ pub fn mkfs<D: Disk>(alloc: Global, disk: &mut D, geometry: Geometry) -> Result<
     // whatever the result is
     ensures told { WhereTold (D.contents disk.old) (D.contents disk.new) HasAsMany }
 
-    ensures memory { result ≡ Err SaveFault.Memory → (D.contents disk.new ≡ D.contents disk.old) × (D.meter disk.new ≡ D.meter disk.old) }
+    ensures memory { result ≡ Err SaveFault.Memory
+        → (D.contents disk.new ≡ D.contents disk.old) × (D.meter disk.new ≡ D.meter disk.old) }
     ensures cause { result ≡ Err SaveFault.Write → HasFailed (D.meter disk.old) (D.meter disk.new) }
-    ensures within { IsWithin (data_start geometry + 2 + (most_writes geometry + 1)) (D.meter disk.old) (D.meter disk.new) }
+    ensures within { IsWithin (data_start geometry + 2 + (geometry.nat + 4)) (D.meter disk.old) (D.meter disk.new) }
 {
     let plan = plan_first(alloc, geometry)?;
     write_blank(disk, &geometry)?;
@@ -62,7 +63,7 @@ fn plan_first(alloc: Global, geometry: Geometry) -> Result<Plan, AllocError>
     ensures second { IfOk result (λ plan. plan.stored.second ≡ false) }
     ensures kept { IfOk result (λ plan. IsKept geometry plan.stored.places) }
     ensures sound { IsGeometry geometry }
-    ensures most { IfOk result (λ plan. length plan.blocks.items ≤ most_writes geometry) }
+    ensures most { IfOk result (λ plan. length plan.blocks.items ≤ geometry.nat + 3) }
 {
     let room = geometry.cn();
     prove!(room >= 1);

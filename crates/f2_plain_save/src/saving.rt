@@ -20,9 +20,9 @@ use std::alloc::{AllocError, Global};
 /// version, the other copy of the node address table, and where the files stand now.
 ///
 /// The tree has to be one that an image of these sizes can have. Memory is taken before the first write, so want of it
-/// changes nothing. Then come all blocks, a flush, the tail of the pack, and a flush: a crash at any time leaves the
-/// tree of the last checkpoint or this one, each as a whole. So does a write or a flush that fails, but which one isn't
-/// known then until the image is read again.
+/// changes nothing. Then come all blocks, a flush, the tail of the pack, and a flush. Whatever the result is, a crash
+/// then leaves the tree of the last checkpoint or this one, each as a whole; a crash in the middle is a disk whose
+/// calls fail from there on. After [`SaveFault::Write`] it isn't known which one until the image is read again.
 pub fn save<D: Disk>(
     alloc: Global,
     disk: &mut D,
@@ -38,11 +38,13 @@ pub fn save<D: Disk>(
     ensures version { IfOk result (λ next. next.version ≡ old.now.version + 1) }
     ensures kept { IfOk result (λ next. IsKept next.geometry next.places) }
 
-    ensures saved { IfOk result (λ next. WhereTold (D.contents disk.old) (D.contents disk.new) (IsSaved old.now tree.now next)) }
+    ensures saved { IfOk result (λ next. WhereTold (D.contents disk.old) (D.contents disk.new)
+        (IsSaved old.now tree.now next)) }
     // whatever the result is
     ensures safe { WhereTold (D.contents disk.old) (D.contents disk.new) (IsSafelySaved old.now tree.now) }
 
-    ensures memory { result ≡ Err SaveFault.Memory → (D.contents disk.new ≡ D.contents disk.old) × (D.meter disk.new ≡ D.meter disk.old) }
+    ensures memory { result ≡ Err SaveFault.Memory
+        → (D.contents disk.new ≡ D.contents disk.old) × (D.meter disk.new ≡ D.meter disk.old) }
     ensures cause { result ≡ Err SaveFault.Write → HasFailed (D.meter disk.old) (D.meter disk.new) }
     ensures within { IsWithin (most_writes old.now.geometry + 1) (D.meter disk.old) (D.meter disk.new) }
 {
