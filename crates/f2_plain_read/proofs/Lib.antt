@@ -1,0 +1,15 @@
+pub mod Telling
+pub mod Newest
+pub mod Tables
+pub mod Pages
+pub mod Named
+pub mod InImage
+pub mod Standing
+pub mod Listing
+pub mod Binding
+pub mod Building
+pub mod Naming
+pub mod Taking
+pub mod Keeping
+pub mod Counting
+pub mod Finding

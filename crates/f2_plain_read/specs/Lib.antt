@@ -1,0 +1,9 @@
+pub mod Faults
+pub mod Told
+pub mod Reads
+pub mod Points
+pub mod Files
+pub mod Bindings
+pub mod Building
+pub mod Keeping
+pub mod Finding

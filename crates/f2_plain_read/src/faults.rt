@@ -1,0 +1,54 @@
+//! Why no tree was read.
+ghost use Rattle.std.specs.Prelude.{◌≡◌};
+ghost use Rattle.f2_plain_read.specs.Faults.{fault_of};
+
+use f2_pack::PackFault;
+use std::alloc::{AllocError, AllocFailed};
+use thiserror::Error;
+
+/// Why no tree was read.
+#[derive(Clone, Copy, Debug, PartialEq, Eq, Error)]
+pub enum ReadFault {
+    /// A read of the disk failed.
+    #[error("the image can't be read")]
+    Read,
+    /// No tree is laid out plainly in the image.
+    #[error("no tree is laid out in the image")]
+    Bad,
+    /// Memory was refused.
+    #[error("out of memory")]
+    Memory,
+}
+
+impl From<AllocError> for ReadFault {
+    ghost use Rattle.f2_plain_read.specs.declared.faults.ReadFault.TheVariants.{Memory};
+
+    ghost from_gives = { λ _ fault. fault ≡ Memory };
+
+    fn from(_error: AllocError) -> ReadFault {
+        ReadFault::Memory
+    }
+}
+
+impl<T: Drop> From<AllocFailed<T>> for ReadFault {
+    ghost use Rattle.f2_plain_read.specs.declared.faults.ReadFault.TheVariants.{Memory};
+
+    ghost from_gives = { λ _ fault. fault ≡ Memory };
+
+    fn from(_error: AllocFailed<T>) -> ReadFault {
+        ReadFault::Memory
+    }
+}
+
+impl From<PackFault> for ReadFault {
+    ghost use Rattle.f2_plain_read.specs.Faults.{fault_of};
+
+    ghost from_gives = { λ error fault. fault ≡ fault_of error };
+
+    fn from(error: PackFault) -> ReadFault {
+        match error {
+            PackFault::Read => ReadFault::Read,
+            PackFault::Memory => ReadFault::Memory,
+        }
+    }
+}
