@@ -1,19 +1,18 @@
 -- The names of a directory are its dentries in order.
-use Rattle.std.proofs.Common.{◌≡◌, ◌≢◌, ◌⊎◌, inl, inr, ℕ, zero, suc, ◌+◌, ◌<◌, ◌==◌, Bool, true, false, cond, ◌||◌, List, [], ◌∷◌, ◌++◌, map as map_list, length, get_or, refl, sym, ap, subst, ◌∙◌, Some, None, Option, All, arith, IsTrue}
-use Rattle.std.specs.Prelude.{Contains, is_some, slice_index_or, nat_le, not, ◌&&◌, ◌≤◌}
-use Rattle.std.specs.List.{AllByRecursion, list_any, list_all, filter, flat_map}
-use Rattle.std.specs.Ordering.{nat_cmp, eq_by_cmp}
-use Rattle.std.specs.Cmp.Lexicographic.{slice_cmp, nat_list_cmp_total}
+use Rattle.std.proofs.Common.{◌≡◌, ◌≢◌, inl, inr, ℕ, ◌==◌, Bool, true, false, cond, List, [], ◌∷◌, ◌++◌, map as map_list, length, refl, sym, ap, subst, ◌∙◌, Some, None, Option, All, IsTrue}
+use Rattle.std.specs.Prelude.{Contains, is_some}
+use Rattle.std.specs.List.{AllByRecursion, list_any, filter}
+use Rattle.std.specs.Ordering.{eq_by_cmp}
+use Rattle.std.specs.Cmp.Lexicographic.{nat_list_cmp_total}
 use Rattle.std.specs.FinMap as map
 use Rattle.std.specs.FinMap.{entries, contains_key-keys, nat_cmp-IsAntisymmetric, slice_cmp-IsAntisymmetric}
 use Rattle.std.specs.FinSet as set
 use Rattle.std.specs.FinSet.{contains-from_list}
-use Rattle.std.proofs.lemmas.Bool.{and_parts, leb-true, true≢false, or_cases, or_left, eqb-true, eqb-false, eq-eqb, ne_eqb}
-use Rattle.std.proofs.lemmas.List.Elements.{All-from_recursion, recursion_from_All, Contains-get_or}
+use Rattle.std.proofs.lemmas.Bool.{and_parts, leb-true, true≢false, or_cases, or_left, eqb-true, eq-eqb, ne_eqb}
+use Rattle.std.proofs.lemmas.List.Elements.{All-from_recursion}
 use Rattle.f2_dentry_block.specs.Dents.{dentry_of, type_of}
 use Rattle.f2_dentry_block.specs.Packed.{HasNameLength, names_of}
 use Rattle.f2_dentry_block.specs.declared.dents.Dent.{Dent}
-use Rattle.f2_dir.specs.Entries.{Entries, dents_of}
 use Rattle.f2_dir.proofs.Listed.{dent_of}
 use Rattle.f2_format.specs.Geometry.{Extent}
 use Rattle.f2_held.proofs.RowLists.{value_is_one, one_is_value, name_of_row, row_of_name}
@@ -22,11 +21,11 @@ use Rattle.f2_laid.specs.Laid.{IsStorable, AreDentries, IsBound}
 use Rattle.f2_model.proofs.RisingLemmas.{rising-is}
 use Rattle.f2_model.specs.Names.{is_good_name}
 use Rattle.f2_model.specs.Rising.{rising}
-use Rattle.f2_model.specs.Tree.{Rows, ROOT, names_in, names_under, names_of as names_of_row}
+use Rattle.f2_model.specs.Tree.{Rows, ROOT, names_in, names_under}
 use Rattle.f2_model.specs.declared.rows.Kind.{Kind}
 use Rattle.f2_model.specs.declared.rows.Kind.TheVariants.{Regular, Directory}
 use Rattle.f2_model.specs.declared.rows.Row.{Row}
-use Rattle.f2_plain_plan.specs.Directories.{AllNames, AreNamesOf, IsNamed, IsNamesOf, names_at, dents_in}
+use Rattle.f2_plain_plan.specs.Directories.{AllNames, IsNamesOf, names_at, dents_in}
 use Rattle.f2_plain_plan.proofs.NameMaps.{name_cmp, name_tied, name_same, names_rise, each_name}
 use Rattle.f2_plain_plan.proofs.Values.{row_at, value_there, value_at}
 

@@ -1,6 +1,5 @@
 -- All files have their places.
-use Rattle.std.proofs.Common.{◌≡◌, ◌≢◌, ℕ, ◌+◌, ◌<◌, ◌≤◌, Bool, true, false, List, [], ◌∷◌, map as map_list, length, take, get_or, refl, sym, ap, subst, ◌∙◌, arith, Some, None, Option, All}
-use Rattle.std.specs.Prelude.{Contains}
+use Rattle.std.proofs.Common.{◌≡◌, ◌≢◌, ℕ, ◌<◌, ◌≤◌, List, [], ◌∷◌, map as map_list, length, take, get_or, refl, sym, ap, subst, ◌∙◌, arith, Some, None, Option}
 use Rattle.std.specs.List.{AllByRecursion, flat_map, list_any, sum_by}
 use Rattle.std.specs.FinMap as map
 use Rattle.std.specs.FinSet as set
@@ -11,7 +10,7 @@ use Rattle.std.proofs.lemmas.Bool.{true≢false, or_left}
 use Rattle.std.proofs.lemmas.List.Elements.{All-contains, All-from_recursion}
 use Rattle.std.proofs.lemmas.List.Sums.{sum_by-cons}
 use Rattle.f2_bitset.proofs.Members.{len-contained}
-use Rattle.f2_format.specs.Geometry.{Extent, node_third}
+use Rattle.f2_format.specs.Geometry.{Extent}
 use Rattle.f2_format.specs.Offsets.{nodes_over, node_count, nodes_of_page}
 use Rattle.f2_held.proofs.Lists.{tied-same}
 use Rattle.f2_image.specs.Reached.{AllDiffer}

@@ -1,7 +1,7 @@
 -- Files are given their places one after another.
-use Rattle.std.proofs.Common.{◌≡◌, ◌≢◌, ◌⊎◌, inl, inr, ℕ, zero, suc, ◌+◌, ◌<◌, ◌≤◌, ◌==◌, Bool, true, false, cond, not, List, [], ◌∷◌, ◌++◌, map as map_list, length, take, get_or, refl, sym, ap, subst, ◌∙◌, arith, Some, None, Option, All}
-use Rattle.std.specs.Prelude.{is_some, Contains, slice_index_or}
-use Rattle.std.specs.List.{AllByRecursion, sum_by, count_by}
+use Rattle.std.proofs.Common.{◌≡◌, ◌≢◌, ◌⊎◌, inl, inr, ℕ, ◌+◌, ◌<◌, ◌≤◌, Bool, true, false, cond, List, [], ◌∷◌, ◌++◌, map as map_list, length, refl, sym, ap, subst, ◌∙◌, arith, Some, None, Option, All}
+use Rattle.std.specs.Prelude.{is_some, Contains}
+use Rattle.std.specs.List.{AllByRecursion, sum_by}
 use Rattle.std.specs.Option.{option_map, unwrap_or}
 use Rattle.std.specs.Ordering.{nat_cmp, eq_by_cmp}
 use Rattle.std.specs.Cmp.{nat_cmp_total}
@@ -10,9 +10,9 @@ use Rattle.std.specs.FinMap.{get-insert, get-empty, len-insert, len-empty}
 use Rattle.std.specs.FinSet as set
 use Rattle.std.proofs.lemmas.Bool.{cases_eq, true≢false}
 use Rattle.std.proofs.lemmas.List.{map-append, length-append}
-use Rattle.std.proofs.lemmas.List.Elements.{All-nil, All-push, All-append, All-weaker, All-map, recursion_from_All, Contains-push, Contains-append_left, Contains-append_right}
+use Rattle.std.proofs.lemmas.List.Elements.{All-nil, All-push, All-append, All-weaker, All-map, recursion_from_All, Contains-push, Contains-append_left}
 use Rattle.std.proofs.lemmas.List.Sums.{sum_by_push}
-use Rattle.f2_bitset.specs.Numbers.{Numbers, IsInRange}
+use Rattle.f2_bitset.specs.Numbers.{Numbers}
 use Rattle.f2_bitset.proofs.Members.{contains-insert_same}
 use Rattle.f2_format.specs.Offsets.{inode_pages}
 use Rattle.f2_held.proofs.Lists.{tied-same, tied-true}
@@ -27,7 +27,7 @@ use Rattle.f2_model.specs.Tree.{Rows}
 use Rattle.f2_model.specs.declared.rows.Row.{Row}
 use Rattle.f2_plain_plan.specs.Contents.{IsContentOf, pages_before}
 use Rattle.f2_plain_plan.specs.Drafts.{AddsRow, IsPageOf, WritesPages}
-use Rattle.f2_plain_plan.specs.Pages.{AddsPages, IsAmong, IsTaken, with_member}
+use Rattle.f2_plain_plan.specs.Pages.{IsAmong, IsTaken}
 use Rattle.f2_plain_plan.specs.declared.drafts.Draft.{Draft}
 use Rattle.f2_plain_plan.proofs.Differ.{differ-append}
 use Rattle.f2_plain_plan.proofs.PageSteps.{page-append, page-append_right}

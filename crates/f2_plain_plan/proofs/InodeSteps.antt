@@ -1,6 +1,6 @@
 -- Inodes are planned one after another, and what the bytes of one say.
-use Rattle.std.proofs.Common.{◌≡◌, ◌≢◌, ℕ, ◌+◌, ◌-◌, ◌<◌, ◌≤◌, Bool, true, false, cond, List, [], ◌∷◌, ◌++◌, map as map_list, length, take, drop, get_or, refl, sym, ap, subst, ◌∙◌, arith, Some, None, Option, Result, Ok, Err, All, inl, inr}
-use Rattle.std.specs.Prelude.{slice_index_or, nat_lt}
+use Rattle.std.proofs.Common.{◌≡◌, ℕ, ◌+◌, ◌-◌, ◌<◌, ◌≤◌, Bool, true, false, cond, List, [], ◌∷◌, ◌++◌, map as map_list, length, take, drop, get_or, refl, sym, ap, subst, ◌∙◌, arith, Some, None, Option, Result, Ok, Err, inl, inr}
+use Rattle.std.specs.Prelude.{nat_lt}
 use Rattle.std.specs.FinMap as map
 use Rattle.std.proofs.lemmas.Bool.{cases_lt, lt-ltb, true≢false}
 use Rattle.std.proofs.lemmas.List.{map-append, append_assoc, length-append, length-drop, take_more, get_or-drop, get_or_past}

@@ -1,7 +1,7 @@
 -- Maps from names: their keys rise, and each entry is found.
-use Rattle.std.proofs.Common.{◌≡◌, ◌≢◌, ℕ, Bool, true, false, cond, ◌&&◌, List, [], ◌∷◌, map as map_list, length, refl, sym, ap, subst, ◌∙◌, Some, None, Option, arith}
-use Rattle.std.specs.Prelude.{T, is_some}
-use Rattle.std.specs.List.{AllByRecursion, list_any}
+use Rattle.std.proofs.Common.{◌≡◌, ◌≢◌, ℕ, Bool, true, false, cond, ◌&&◌, List, [], ◌∷◌, map as map_list, length, refl, sym, ap, ◌∙◌, Some, None, arith}
+use Rattle.std.specs.Prelude.{T}
+use Rattle.std.specs.List.{AllByRecursion}
 use Rattle.std.specs.List.Sorted.{IsStrictlySortedBy}
 use Rattle.std.specs.Ordering.{nat_cmp, eq_by_cmp, is_eq, is_lt}
 use Rattle.std.specs.Cmp.{eq_by_cmp_equiv}

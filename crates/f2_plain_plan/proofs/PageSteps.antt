@@ -1,20 +1,20 @@
 -- Pages are planned one after another.
-use Rattle.std.proofs.Common.{◌≡◌, ◌≢◌, ◌⊎◌, inl, inr, ℕ, zero, suc, ◌+◌, ◌-◌, ◌<◌, ◌≤◌, Bool, true, false, List, [], ◌∷◌, ◌++◌, map as map_list, length, get_or, set as set_at, refl, sym, ap, subst, ◌∙◌, arith, add-one, Option, Some, None, All}
-use Rattle.std.specs.Prelude.{slice_index_or, is_some, if◌then◌else◌}
+use Rattle.std.proofs.Common.{◌≡◌, ◌≢◌, ◌⊎◌, inl, inr, ℕ, zero, suc, ◌+◌, ◌-◌, ◌<◌, ◌≤◌, Bool, true, false, List, [], ◌∷◌, ◌++◌, map as map_list, length, get_or, set as set_at, refl, sym, ap, subst, ◌∙◌, arith, add-one, Option, Some, None}
+use Rattle.std.specs.Prelude.{is_some, if◌then◌else◌}
 use Rattle.std.specs.FinSet as set
 use Rattle.std.specs.FinSet.{len-insert}
 use Rattle.std.specs.Cmp.{nat_cmp_total}
-use Rattle.std.proofs.lemmas.Bool.{cases_lt, cases_eq, false≢true, true≢false}
+use Rattle.std.proofs.lemmas.Bool.{cases_lt, cases_eq, true≢false}
 use Rattle.std.proofs.lemmas.List.{get_or-set_same, get_or-set_other, length-set, map-append, append_assoc, append-nil, length-append}
 use Rattle.std.proofs.lemmas.List.Elements.{All-nil, All-push, All-weaker, All-map, recursion_from_All, Contains-push, Contains-append_left, Contains-append_right}
-use Rattle.f2_bitset.specs.Numbers.{Numbers, IsInRange, IsLeastMissing}
+use Rattle.f2_bitset.specs.Numbers.{Numbers, IsInRange}
 use Rattle.f2_bitset.proofs.Members.{contains-insert_same, contains-insert_other}
 use Rattle.f2_format.specs.Offsets.{inode_pages}
 use Rattle.f2_image.specs.Reached.{AllDiffer}
-use Rattle.f2_laid.specs.Planned.{Writes, WritesPage}
+use Rattle.f2_laid.specs.Planned.{WritesPage}
 use Rattle.f2_laid.specs.declared.planned.Planned.{Planned}
 use Rattle.f2_plain_plan.specs.Contents.{pages_before}
-use Rattle.f2_plain_plan.specs.Pages.{AddsBlock, AddsPages, IsAmong, IsTaken, with_member}
+use Rattle.f2_plain_plan.specs.Pages.{AddsBlock, AddsPages, IsAmong, IsTaken}
 use Rattle.f2_plain_plan.proofs.Differ.{differ-push}
 
 -- a page that is there counts

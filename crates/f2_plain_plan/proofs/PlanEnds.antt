@@ -1,15 +1,14 @@
 -- The blocks of a checkpoint, put together.
-use Rattle.std.proofs.Common.{◌≡◌, ◌≢◌, ℕ, zero, suc, ◌+◌, ◌*◌, ◌<◌, ◌≤◌, Bool, true, false, cond, List, [], ◌∷◌, ◌++◌, map as map_list, length, get_or, refl, sym, ap, subst, ◌∙◌, arith, add-one, inl, inr, Some, None, Option, All, IsTrue}
-use Rattle.std.specs.Prelude.{Contains, slice_index_or}
+use Rattle.std.proofs.Common.{◌≡◌, ◌≢◌, ℕ, zero, suc, ◌+◌, ◌<◌, ◌≤◌, Bool, true, false, List, [], ◌∷◌, ◌++◌, map as map_list, length, get_or, refl, sym, ap, subst, ◌∙◌, arith, add-one, inl, inr, Some, None, Option, All}
+use Rattle.std.specs.Prelude.{Contains}
 use Rattle.std.specs.List.{AllByRecursion, range_with_len}
 use Rattle.std.specs.FinMap as map
 use Rattle.std.proofs.lemmas.Bool.{cases_eq}
 use Rattle.std.proofs.lemmas.List.{length-append, length-map, map-append}
-use Rattle.std.proofs.lemmas.List.Elements.{All-append, All-cons, All-contains, All-from_recursion, All-map, All-nil, All-weaker, Contains-append_left, Contains-append_right, Contains-push, recursion_from_All}
+use Rattle.std.proofs.lemmas.List.Elements.{All-append, All-cons, All-contains, All-nil, All-weaker, Contains-append_left, Contains-append_right, recursion_from_All}
 use Rattle.std.proofs.lemmas.List.FromFn.{get_or-range_with_len, length-range_with_len, map-range_with_len_more}
-use Rattle.f2_format.specs.Geometry.{Extent, IsGeometry, data_start, data_third, nat_address, node_start, node_third}
+use Rattle.f2_format.specs.Geometry.{Extent, data_start, data_third, nat_address, node_start, node_third}
 use Rattle.f2_format.specs.Inode.{NAME_BYTES}
-use Rattle.f2_format.specs.Offsets.{inode_pages}
 use Rattle.f2_image.specs.Packs.{A, B, Side, head_address, summary_address}
 use Rattle.f2_image.specs.Reached.{AllDiffer}
 use Rattle.f2_laid.specs.Laid.{IsStorable, PlaceMap, at_of, page_at, side_of}
@@ -19,7 +18,7 @@ use Rattle.f2_laid.specs.declared.planned.Planned.{Planned}
 use Rattle.f2_laid.specs.declared.stored.Stored.{Stored}
 use Rattle.f2_model.specs.Tree.{Rows, ROOT}
 use Rattle.f2_model.specs.declared.rows.Row.{Row}
-use Rattle.f2_plain_plan.specs.Drafts.{IsDraftOf, IsPageOf, WritesPages}
+use Rattle.f2_plain_plan.specs.Drafts.{IsDraftOf, IsPageOf}
 use Rattle.f2_plain_plan.specs.Inodes.{AddsInodes, HasInode, WritesInode}
 use Rattle.f2_plain_plan.specs.Packs.{AddsPack, IsHead}
 use Rattle.f2_plain_plan.specs.Tables.{AddsTables}
@@ -27,7 +26,6 @@ use Rattle.f2_plain_plan.specs.declared.plans.Next.{Next}
 use Rattle.f2_plain_plan.proofs.Dentries.{good_length}
 use Rattle.f2_plain_plan.proofs.Differ.{all_shown, differ-append, differ-other, differ-push, each-append, each-map, each-push, each-weaker, parted}
 use Rattle.f2_plain_plan.proofs.DraftEnds.{rows_few}
-use Rattle.f2_plain_plan.proofs.PageSteps.{page-append}
 use Rattle.f2_plain_plan.proofs.Values.{each_value, numbers_differ, value_there}
 use Rattle.f2_plain_plan.proofs.ZoneRanges.{data_range, node_range}
 

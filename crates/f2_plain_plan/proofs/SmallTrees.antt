@@ -1,22 +1,22 @@
 -- Small trees that every image can have: the root alone, and the root with two files.
-use Rattle.std.proofs.Common.{◌≡◌, ◌≢◌, ℕ, zero, suc, ◌+◌, ◌*◌, ◌<◌, ◌≤◌, Bool, true, false, cond, ◌||◌, List, [], ◌∷◌, ◌++◌, map as map_list, length, get_or, refl, sym, ap, subst, ◌∙◌, arith, Some, None, Option, IsTrue}
+use Rattle.std.proofs.Common.{◌≡◌, ◌≢◌, ℕ, ◌+◌, ◌*◌, ◌<◌, ◌≤◌, Bool, true, false, cond, ◌||◌, List, [], ◌∷◌, map as map_list, length, refl, sym, ap, subst, ◌∙◌, arith, Some, None, IsTrue}
 use Rattle.std.specs.Prelude.{slice_index}
-use Rattle.std.specs.List.{AllByRecursion, flat_map, list_any, range_with_len, sum_by}
+use Rattle.std.specs.List.{AllByRecursion, range_with_len, sum_by}
 use Rattle.std.specs.List.Sorted.{IsStrictlySortedBy}
 use Rattle.std.specs.Ordering.{nat_cmp, eq_by_cmp}
 use Rattle.std.specs.Cmp.{nat_cmp_total}
 use Rattle.std.specs.Cmp.Lexicographic.{nat_list_cmp_total}
 use Rattle.std.specs.FinMap as map
-use Rattle.std.specs.FinMap.{FinMap, entries, entries-insert, find, get-entries, get-empty, get-insert, len-entries, len-empty, len-insert, nat_cmp-IsAntisymmetric, slice_cmp-IsAntisymmetric}
+use Rattle.std.specs.FinMap.{FinMap, entries, entries-insert, find, get-entries, get-empty, len-entries, len-empty, nat_cmp-IsAntisymmetric, slice_cmp-IsAntisymmetric}
 use Rattle.std.specs.FinSet as set
-use Rattle.std.specs.FinSet.{contains-from_list, from_list_push}
+use Rattle.std.specs.FinSet.{contains-from_list}
 use Rattle.std.proofs.lemmas.List.{get_or_past}
 use Rattle.std.proofs.lemmas.List.Sums.{sum_by-cons}
-use Rattle.f2_format.specs.Geometry.{Extent, IsGeometry, nid_limit, node_third, data_third}
+use Rattle.f2_format.specs.Geometry.{Extent, IsGeometry, nid_limit}
 use Rattle.f2_format.specs.Inode.{SIZE_LIMIT}
 use Rattle.f2_format.specs.Offsets.{direct_of, inode_pages, node_count, nodes_over}
 use Rattle.f2_format.specs.Packing.{blocks_of_names}
-use Rattle.f2_held.proofs.Lists.{tied-same, tied-true}
+use Rattle.f2_held.proofs.Lists.{tied-true}
 use Rattle.f2_laid.specs.Laid.{IsKept, IsStorable, pages_of_place, root_alone, root_row}
 use Rattle.f2_laid.specs.declared.places.Place.{Place}
 use Rattle.f2_model.proofs.RisingLemmas.{rising-is}
@@ -24,7 +24,7 @@ use Rattle.f2_model.specs.Content.{PAGE}
 use Rattle.f2_model.specs.Count.{data_of_row, data_of_tree, dentry_blocks, nodes_of_row, nodes_of_tree}
 use Rattle.f2_model.specs.Names.{is_good_name}
 use Rattle.f2_model.specs.Rising.{rising}
-use Rattle.f2_model.specs.Tree.{HasGoodPages, IsAtDepth, ROOT, Rows, most_depth, names_in}
+use Rattle.f2_model.specs.Tree.{HasGoodPages, IsAtDepth, ROOT, Rows, most_depth}
 use Rattle.f2_model.specs.declared.rows.Kind.TheVariants.{Regular, Directory}
 use Rattle.f2_model.specs.declared.rows.Row.{Row}
 use Rattle.f2_plain_plan.proofs.NameMaps.{name_cmp}

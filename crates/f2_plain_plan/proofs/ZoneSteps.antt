@@ -1,15 +1,13 @@
 -- The addresses of files are put among others, one file after another.
-use Rattle.std.proofs.Common.{◌≡◌, ◌≢◌, inl, inr, ℕ, ◌+◌, ◌*◌, ◌<◌, ◌≤◌, ◌==◌, not, Bool, true, false, cond, List, map as map_list, length, take, get_or, refl, sym, ap, subst, ◌∙◌, arith, Some, All, IsTrue}
-use Rattle.std.specs.Prelude.{slice_index_or}
+use Rattle.std.proofs.Common.{◌≡◌, ◌≢◌, inl, inr, ℕ, ◌+◌, ◌<◌, ◌≤◌, ◌==◌, not, Bool, true, false, cond, List, length, take, get_or, sym, ap, subst, ◌∙◌, arith, All}
 use Rattle.std.specs.List.{count_by, sum_by}
-use Rattle.std.specs.FinMap as map
 use Rattle.std.specs.FinSet as set
 use Rattle.std.specs.FinSet.{len-insert}
 use Rattle.std.specs.Cmp.{nat_cmp_total}
-use Rattle.std.proofs.lemmas.Bool.{cases_lt, cases_eq, false≢true, true≢false}
+use Rattle.std.proofs.lemmas.Bool.{cases_eq}
 use Rattle.std.proofs.lemmas.List.Elements.{All-more, All-weaker}
 use Rattle.std.proofs.lemmas.List.Sums.{count_by_more_yes, count_by_more_no, sum_by_more}
-use Rattle.f2_bitset.specs.Numbers.{Numbers, IsInRange}
+use Rattle.f2_bitset.specs.Numbers.{Numbers}
 use Rattle.f2_bitset.proofs.Members.{contains-insert_same, contains-insert_other}
 use Rattle.f2_laid.specs.Laid.{page_at, pages_of_place}
 use Rattle.f2_laid.specs.declared.places.Place.{Place}

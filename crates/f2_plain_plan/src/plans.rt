@@ -19,7 +19,7 @@ pub struct Next {
 }
 
 /// The blocks of a checkpoint.
-#[derive(Drop)]
+#[derive(Debug, Drop)]
 pub struct Plan {
     /// All blocks but the tail of its pack, in the order in which they are written: data blocks, inodes, the node
     /// address table, the summary and the head of the pack.

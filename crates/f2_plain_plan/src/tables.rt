@@ -1,5 +1,5 @@
 //! The node address table.
-ghost use Rattle.std.specs.Prelude.{◌≡◌, ◌+◌, ◌*◌, ◌<◌, ◌≤◌, ℕ, OnOk};
+ghost use Rattle.std.specs.Prelude.{◌≡◌, ◌+◌, ◌*◌, ◌<◌, ℕ, OnOk};
 ghost use Rattle.std.specs.FinMap as map;
 ghost use Rattle.f2_format.specs.Geometry.{ENTRIES_A_NAT_BLOCK};
 ghost use Rattle.f2_format.specs.Nat.{nat_entry};

@@ -1,6 +1,5 @@
 //! Plans of small trees.
 ghost use Rattle.std.specs.Prelude.{◌≡◌, ◌∷◌, [], IfOk};
-ghost use Rattle.std.specs.FinMap as map;
 ghost use Rattle.f2_format.specs.Geometry.{Extent, IsGeometry};
 ghost use Rattle.f2_laid.specs.Laid.{IsKept, IsStorable, root_row};
 
@@ -138,12 +137,7 @@ fn old_places_are_not_taken(rt: HostRuntime) -> Result<(), Fail> {
 fn inodes_tell_names_and_parents(rt: HostRuntime) -> Result<(), Fail> {
     let alloc = rt.alloc();
     let tree = two(alloc, &[7; 4096])?;
-    let plan = plan(
-        alloc,
-        &tree,
-        &nothing(alloc),
-        first(Geometry::new(128, 1)?),
-    )?;
+    let plan = plan(alloc, &tree, &nothing(alloc), first(Geometry::new(128, 1)?))?;
     let inode = read_inode(&plan.blocks.get(3).ok_or("no inode")?.block)?;
     assert_eq!(rt; (inode.pino, inode.name_len, inode.name[0]), (3, 1, b'b'));
     assert_eq!(rt; (inode.size, inode.addr[0]), (4096, 38));

@@ -1,4 +1,4 @@
-use Rattle.std.proofs.Common.{◌≡◌, ◌∙◌, ◌≤◌, ℕ, List, map as map_list, length, sym, subst, ap, refl}
+use Rattle.std.proofs.Common.{◌∙◌, ◌≤◌, ℕ, List, map as map_list, sym, subst, ap, refl}
 use Rattle.std.specs.Prelude.{slice_get}
 use Rattle.std.specs.FinMap as map
 use Rattle.f2_dentry_block.specs.Dents.{dentry_of}

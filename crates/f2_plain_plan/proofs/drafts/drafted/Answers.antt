@@ -1,4 +1,4 @@
-use Rattle.std.proofs.Common.{◌≡◌, ◌∙◌, ℕ, ◌+◌, ◌*◌, ◌<◌, ◌≤◌, ◌++◌, List, [], ◌∷◌, take, length, get_or, sym, subst, ap, arith}
+use Rattle.std.proofs.Common.{◌∙◌, ◌≤◌, ◌++◌, List, [], ◌∷◌, take, length, sym, subst, ap, arith}
 use Rattle.std.specs.Borrow.{Bor}
 use Rattle.std.specs.Prelude.{Contains}
 use Rattle.std.specs.List.{sum_by}
@@ -6,10 +6,9 @@ use Rattle.std.specs.FinMap as map
 use Rattle.std.proofs.lemmas.List.{length-map, length-take-le, take_all, take_more}
 use Rattle.std.proofs.lemmas.List.Elements.{Contains-get_or}
 use Rattle.std.proofs.lemmas.List.Sums.{sum_by_more_le}
-use Rattle.f2_format.specs.Geometry.{data_third, node_third}
 use Rattle.f2_model.specs.Count.{data_of_row}
 use Rattle.f2_model.specs.declared.rows.Row.{Row}
-use Rattle.f2_plain_plan.specs.Contents.{content_at, pages_before}
+use Rattle.f2_plain_plan.specs.Contents.{content_at}
 use Rattle.f2_plain_plan.specs.Directories.{rows_at}
 use Rattle.f2_plain_plan.proofs.Dentries.{are_fitting}
 use Rattle.f2_plain_plan.proofs.DraftEnds.{all_placed, row_fresh, rows_few}

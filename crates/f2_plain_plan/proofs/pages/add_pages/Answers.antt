@@ -1,10 +1,9 @@
-use Rattle.std.proofs.Common.{◌≡◌, ◌∙◌, ℕ, ◌+◌, ◌<◌, ◌≤◌, List, length, get_or, inl, inr, sym, subst, ap, arith, replicate, Some, None}
+use Rattle.std.proofs.Common.{◌≡◌, ◌∙◌, ℕ, get_or, inl, inr, sym, ap, arith, replicate}
 use Rattle.std.specs.Option.{option_copied}
 use Rattle.std.proofs.lemmas.Bool.{cases_lt}
 use Rattle.std.proofs.lemmas.List.{get_or-replicate, get_or_past, length-replicate}
 use Rattle.f2_format.specs.Offsets.{inode_pages}
-use Rattle.f2_plain_plan.specs.Contents.{content_at, pages_before}
-use Rattle.f2_plain_plan.specs.Pages.{AddsPages}
+use Rattle.f2_plain_plan.specs.Contents.{content_at}
 use Rattle.f2_plain_plan.proofs.PageSteps.{no_page, not_there, put_there, page_counts}
 use Rattle.f2_plain_plan.proofs.pages.add_pages.Goals as goal
 use Rattle.f2_plain_plan.proofs.pages.add_pages.Goals.{in-Some+in_ok-addresses, in_default}

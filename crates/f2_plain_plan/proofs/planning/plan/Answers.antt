@@ -1,5 +1,4 @@
 use Rattle.std.proofs.Common.{◌∙◌, List, All, sym, subst, ap}
-use Rattle.f2_laid.specs.declared.planned.Planned.{Planned}
 use Rattle.f2_model.specs.declared.rows.Row.{Row}
 use Rattle.f2_plain_plan.specs.Directories.{rows_at}
 use Rattle.f2_plain_plan.specs.Inodes.{AddsInodes, HasInode}

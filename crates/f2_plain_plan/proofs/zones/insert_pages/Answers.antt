@@ -1,7 +1,4 @@
-use Rattle.std.proofs.Common.{◌≡◌, ◌∙◌, sym, subst, ap, arith}
-use Rattle.f2_bitset.specs.Numbers.{Numbers}
-use Rattle.f2_laid.specs.Laid.{page_at}
-use Rattle.f2_plain_plan.specs.Pages.{with_member}
+use Rattle.std.proofs.Common.{◌∙◌, sym, subst, arith}
 use Rattle.f2_plain_plan.proofs.ZoneSteps.{InsertsSoFar, page_more, page_none}
 use Rattle.f2_plain_plan.proofs.zones.insert_pages.Goals as goal
 use Rattle.f2_plain_plan.proofs.zones.insert_pages.Goals.{then-at-ne0, else-at-ne0}

@@ -1,4 +1,4 @@
-use Rattle.std.proofs.Common.{◌≡◌, ◌∙◌, ap, arith}
+use Rattle.std.proofs.Common.{arith}
 use Rattle.f2_plain_plan.proofs.ZoneRanges.{is_some_from}
 use Rattle.f2_plain_plan.proofs.zones.log_start.Goals as goal
 

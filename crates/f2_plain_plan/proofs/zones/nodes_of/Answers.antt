@@ -1,4 +1,4 @@
-use Rattle.std.proofs.Common.{◌≡◌, ◌∙◌, ℕ, ◌*◌, ◌≤◌, List, length, get_or, sym, subst, ap, arith, All, IsTrue, true}
+use Rattle.std.proofs.Common.{◌≡◌, ◌∙◌, ◌*◌, ◌≤◌, length, sym, subst, ap, arith, All, IsTrue, true}
 use Rattle.std.specs.Borrow.{Bor}
 use Rattle.std.specs.FinMap as map
 use Rattle.std.specs.FinMap.{len-entries}
@@ -9,7 +9,7 @@ use Rattle.std.proofs.lemmas.List.{length-map}
 use Rattle.f2_bitset.specs.Numbers.{Numbers}
 use Rattle.f2_format.specs.Geometry.{is_in_node}
 use Rattle.f2_laid.specs.declared.places.Place.{Place}
-use Rattle.f2_plain_plan.specs.Zones.{AreNodes, places_at}
+use Rattle.f2_plain_plan.specs.Zones.{places_at}
 use Rattle.f2_plain_plan.proofs.Items.{all_taken, item_low, place_has, place_is}
 use Rattle.f2_plain_plan.proofs.Values.{each_value, value_each}
 use Rattle.f2_plain_plan.proofs.ZoneRanges.{node_inside}

@@ -1,7 +1,6 @@
-use Rattle.std.proofs.Common.{◌≡◌, ◌≢◌, ◌∙◌, ℕ, ◌*◌, ◌≤◌, List, length, take, get_or, sym, subst, ap, arith, All, IsTrue, true}
+use Rattle.std.proofs.Common.{◌≡◌, ◌≢◌, ◌∙◌, ℕ, ◌*◌, ◌≤◌, length, sym, subst, ap, arith, All, IsTrue, true}
 use Rattle.std.specs.Borrow.{Bor}
 use Rattle.std.specs.List.{sum_by}
-use Rattle.std.specs.FinMap as map
 use Rattle.std.specs.FinSet as set
 use Rattle.std.specs.FinSet.{len-empty}
 use Rattle.std.specs.Ordering.{nat_cmp}
@@ -11,7 +10,7 @@ use Rattle.f2_bitset.specs.Numbers.{Numbers}
 use Rattle.f2_format.specs.Geometry.{is_in_data}
 use Rattle.f2_laid.specs.Laid.{page_at, pages_of_place}
 use Rattle.f2_laid.specs.declared.places.Place.{Place}
-use Rattle.f2_plain_plan.specs.Zones.{AreData, places_at}
+use Rattle.f2_plain_plan.specs.Zones.{places_at}
 use Rattle.f2_plain_plan.proofs.Items.{all_taken, item_low, place_has, place_is}
 use Rattle.f2_plain_plan.proofs.Values.{each_value, value_each}
 use Rattle.f2_plain_plan.proofs.ZoneRanges.{data_inside}

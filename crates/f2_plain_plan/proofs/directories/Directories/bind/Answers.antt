@@ -1,10 +1,9 @@
-use Rattle.std.proofs.Common.{◌≡◌, ◌∙◌, ap, sym, subst, rules, ℕ, Result, Ok, Err, OnOk, BTreeMap}
-use Rattle.std.specs.Option.{unwrap_or, option_copied, option_copied_mut}
+use Rattle.std.proofs.Common.{◌∙◌, ap, sym, rules, ℕ, Result, Ok, Err, OnOk, BTreeMap}
+use Rattle.std.specs.Option.{unwrap_or}
 use Rattle.std.specs.FinMap as map
 use Rattle.f2_dir.specs.Entries.{Entries}
 use Rattle.f2_dir.specs.declared.Dir.{Dir}
 use Rattle.f2_model.proofs.MapViews.{lookup-seen, seen-insert}
-use Rattle.f2_plain_plan.specs.Directories.{bound, names_at}
 use Rattle.f2_plain_plan.proofs.directories.Directories.bind.Goals as goal
 
 on_ok : {A E : Type 0} (r : Result A E) (P Q : Type 0) → (P → Q) → OnOk r P → OnOk r Q

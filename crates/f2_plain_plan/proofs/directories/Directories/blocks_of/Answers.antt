@@ -8,7 +8,6 @@ use Rattle.f2_dir.specs.Entries.{dents_of}
 use Rattle.f2_dir.proofs.Listed.{dent_of}
 use Rattle.f2_format.specs.Packing.{blocks_of_names}
 use Rattle.f2_model.proofs.MapViews.{lookup-seen}
-use Rattle.f2_plain_plan.specs.Directories.{dents_in}
 use Rattle.f2_plain_plan.proofs.NameMaps.{no_entries}
 use Rattle.f2_plain_plan.proofs.directories.Directories.blocks_of.Goals as goal
 

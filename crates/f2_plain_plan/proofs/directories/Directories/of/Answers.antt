@@ -1,7 +1,6 @@
-use Rattle.std.proofs.Common.{◌≡◌, ◌≢◌, ◌≤◌, ◌∙◌, ◌+◌, ◌++◌, List, [], ◌∷◌, take, length, get_or, sym, subst, ap, arith, All}
+use Rattle.std.proofs.Common.{◌≤◌, ◌∙◌, ◌++◌, List, [], ◌∷◌, take, length, sym, subst, ap}
 use Rattle.std.specs.Borrow.{Bor}
 use Rattle.std.proofs.lemmas.List.{length-map, take_all, take_more}
-use Rattle.f2_model.specs.Tree.{ROOT}
 use Rattle.f2_model.specs.declared.rows.Row.{Row}
 use Rattle.f2_plain_plan.specs.Directories.{AllNames, AreNamesOf, rows_at}
 use Rattle.f2_plain_plan.proofs.Bindings.{no_names, root_more, row_more}
