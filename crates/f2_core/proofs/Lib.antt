@@ -1,7 +1,18 @@
+-- Lemmas that several proofs share.
+pub mod Values
+pub mod PlainTrees
+pub mod FlatTrees
 pub mod Refusals
 pub mod Grown
-pub mod Steps
 pub mod Runs
-pub mod Created
-pub mod Opened
+pub mod Steps
+pub mod Held
+pub mod Comes
+pub mod Crashes
+pub mod Made
+pub mod Finding
+pub mod Unchanged
+pub mod Creates
+pub mod Saved
+pub mod Mounted
 pub mod ComeTo

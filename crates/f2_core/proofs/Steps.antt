@@ -1,47 +1,34 @@
--- A create is the machine's step, case by case.
-use mathlib.Core.Bool.{true≢false}
-use Rattle.std.proofs.lemmas.Option.{none-some}
-use Rattle.std.proofs.lemmas.List.Sums.{sum_by-cons}
+-- What happens to a core is a step of the machine, case by case.
+use Rattle.std.proofs.Common.{◌≡◌, ◌≢◌, ◌⊎◌, inl, inr, ℕ, ◌<◌, ◌≤◌, Bool, true, false, not, nat_le, List, [], ◌∷◌, refl, sym, ap, ◌∙◌, subst, arith, true≢false}
+use Rattle.std.specs.Prelude.{Option, Some, None, MatchOption, if◌then◌else◌, take}
+use Rattle.std.specs.Bool.{MatchBool}
+use Rattle.std.specs.List.{filter}
 use Rattle.std.specs.Option.{unwrap_or}
-use Rattle.std.proofs.Common.{map as map_list, MatchOption, ◌≡◌, ◌≢◌, ◌⊎◌, ℕ, zero, suc, ◌+◌, ◌*◌, ◌<◌, ◌≤◌, Bool, true, false, not, nat_lt, nat_le, ◌==◌, is_some, List, [], ◌∷◌, ◌++◌, length, cond, Option, Some, None, Ok, refl, arith, sym, ap, ◌∙◌, subst, inl, inr, nat_cmp}
-use Rattle.std.specs.Bool.{MatchBool, then_some}
-use Rattle.std.specs.List.{sum_by}
-use Rattle.std.specs.Ordering.{eq_by_cmp}
-use Rattle.std.specs.Cmp.{nat_cmp_total, unsigned_tied}
+use Rattle.std.specs.Ordering.{nat_cmp}
+use Rattle.std.specs.Cmp.{nat_cmp_total}
 use Rattle.std.specs.FinMap as map
-use Rattle.std.specs.FinMap.{gets}
-use Rattle.std.specs.FinSet as set
-use Rattle.f2_format.specs.Offsets.{nodes_over, node_count}
+use Rattle.std.specs.FinMap.{nat_cmp-IsAntisymmetric}
 use Rattle.f2_model.specs.declared.bounds.Limits.{Limits}
-use Rattle.f2_model.specs.declared.rows.Row.{Row}
-use Rattle.f2_model.specs.declared.rows.Kind.TheVariants.{Regular}
 use Rattle.f2_model.specs.declared.requests.Request.{Request}
-use Rattle.f2_model.specs.declared.requests.Request.TheVariants.{Create}
+use Rattle.f2_model.specs.declared.requests.Request.TheVariants.{Create, Sync}
+use Rattle.f2_model.specs.declared.replies.Plan.TheVariants as plan
+use Rattle.f2_model.specs.declared.replies.Begun.TheVariants.{Going}
 use Rattle.f2_model.specs.declared.replies.Reply.{Reply}
 use Rattle.f2_model.specs.declared.replies.Reply.TheVariants as reply
-use Rattle.f2_model.specs.Tree.{Rows, ROOT, last_name}
-use Rattle.f2_model.specs.Count.{nodes_of_row, nodes_of_tree}
-use Rattle.f2_model.specs.Call.{refusal, effect, space_refusal, first_refusal, walk_parent, new_row}
-use Rattle.f2_model.specs.State.{State, Flight, IsFreeIno}
-use Rattle.f2_model.specs.Step.{Faults, Turn, StepBegin, MOST_ENTRIES, barring_seat, unchanged, replied, did, called}
-use Rattle.f2_core.specs.Seen.{bare_tree, root_row, state_of, IsGrown}
-use Rattle.f2_core.proofs.Grown.{fresh-grown}
-use Rattle.f2_core.proofs.Refusals.{effect-create}
-
--- nothing stands in an empty map
-no_items : {X : Type 0} (xs : List X) → length xs ≡ 0 → xs ≡ []
-no_items [] e = refl
-no_items (x ∷ xs) e = absurd (omega (arith, e))
-
-entries-empty : {X : Type 0} → map.entries (map.empty {K = ℕ} {X = X} {R = nat_cmp}) ≡ []
-entries-empty {X} = no_items _ (sym (map.len-entries map.empty) ∙ map.len-empty nat_cmp X)
-
--- nobody keeps a seat from beginning where nobody is in flight
-barring-none : (tree : Rows) (n seat : ℕ) → barring_seat (state_of tree true n) seat ≡ None
-barring-none tree n seat = rw (map.get-empty nat_cmp seat, entries-empty {X = Flight}) refl
+use Rattle.f2_model.specs.declared.replies.Step.TheVariants as step
+use Rattle.f2_model.specs.declared.histories.Entry.TheVariants as entry
+use Rattle.f2_model.specs.Tree.{Rows}
+use Rattle.f2_model.specs.Call.{refusal, effect, space_refusal}
+use Rattle.f2_model.specs.State.{State, Mark, Mode, Shut, Up, Flight, InCheck, IsFreeIno}
+use Rattle.f2_model.specs.Step as machine
+use Rattle.f2_model.specs.Step.{Step, Turn, Begin, Go, Mount, Crash, Began, Stepped, AlreadyMounted, MOST_ENTRIES, MOUNT_SEAT, is_up, is_shut, is_check, first_key, barring_seat, least_in_flight, is_unmount, based, left, turned, unchanged, replied, did, called, found, completes, crashed}
+use Rattle.f2_laws.proofs.Maps.{get_put-other, get_taken, get_taken-other}
+use Rattle.f2_laws.proofs.Places.{same_or_other}
+use Rattle.f2_core.proofs.PlainTrees.{entries-empty}
+use Rattle.f2_core.proofs.Runs.{calm}
 
 -- a choice by a test, and by what there is, at a known answer
-pub on_false : (b : Bool) (P Q : Type 0) → b ≡ false → Q → MatchBool b P Q
+on_false : (b : Bool) (P Q : Type 0) → b ≡ false → Q → MatchBool b P Q
 on_false true P Q is q = absurd (true≢false is)
 on_false false P Q is q = q
 
@@ -51,58 +38,11 @@ on_true false P Q is p = absurd (true≢false (sym is))
 
 on_none : {X : Type 0} (o : Option X) (P : Type 0) (Q : X → Type 0) → o ≡ None → P → MatchOption o P Q
 on_none None P Q is p = p
-on_none (Some x) P Q is p = absurd (none-some x (sym is))
+on_none (Some x) P Q is p = absurd (cc)
 
-pub on_some : {X : Type 0} (o : Option X) (P : Type 0) (Q : X → Type 0) (x : X) → o ≡ Some x → Q x → MatchOption o P Q
-on_some None P Q x is q = absurd (none-some x is)
+on_some : {X : Type 0} (o : Option X) (P : Type 0) (Q : X → Type 0) (x : X) → o ≡ Some x → Q x → MatchOption o P Q
+on_some None P Q x is q = absurd (cc)
 on_some (Some y) P Q x is q = subst Q (sym (ap (λ o. unwrap_or o y) is)) q
-
--- what a set has makes it no empty one
-member_len : (s : set.FinSet nat_cmp) (k : ℕ) → set.contains s k ≡ true → 1 ≤ set.len s
-member_len s k there =
-    let none : set.len s ≢ 0 = λ e. true≢false (sym there ∙ ap (λ t. set.contains t k) (set.empty_of_len s e) ∙ set.contains-empty nat_cmp k) in
-    omega (arith, none)
-
-at_least_one : (b : Bool) (n : ℕ) → (b ≡ true → 1 ≤ n) → 1 ≤ cond b n (n + 1)
-at_least_one true n there = there refl
-at_least_one false n there = omega arith
-
--- a row has an inode at least, and a tree as many nodes as rows
-has_inode : (pages : List ℕ) → 1 ≤ node_count pages
-unfolding nodes_over
-has_inode pages = rw (set.len-insert nat_cmp_total _ 0) (at_least_one _ _ (member_len _ 0))
-
-as_many : {X : Type 0} (f : X → ℕ) → ((x : X) → 1 ≤ f x) → (xs : List X) → length xs ≤ sum_by f xs
-as_many f least [] = omega arith
-as_many f least (x ∷ xs) = omega (arith, least x, as_many f least xs, sum_by-cons f x xs)
-
-length-map : {X Y : Type 0} (f : X → Y) (xs : List X) → length (map_list f xs) ≡ length xs
-length-map f [] = refl
-length-map f (x ∷ xs) = ap suc (length-map f xs)
-
-len-le-nodes : (tree : Rows) → map.len tree ≤ nodes_of_tree tree
-len-le-nodes tree =
-    let rows = map.values tree in
-    let many = as_many (nodes_of_row rows) (λ row. has_inode _) rows in
-    let len = length-map (λ e. e.1) (map.entries tree) in
-    omega (arith, many, len, map.len-entries tree)
-
--- where no space is refused, the nodes fit
-pub first-none : (o : Option Reply) (rest : List (Option Reply)) → first_refusal (o ∷ rest) ≡ None → o ≡ None
-first-none None rest e = refl
-first-none (Some r) rest e = e
-
-then_some-none : (b : Bool) (r : Reply) → then_some b r ≡ None → b ≡ false
-then_some-none true r e = absurd (none-some r (sym e))
-then_some-none false r e = refl
-
-nodes_fit : (limits : Limits) (tree : Rows) → space_refusal limits tree ≡ None → nodes_of_tree tree ≤ limits.nodes
-nodes_fit limits tree none =
-    let small : nat_lt limits.nodes (nodes_of_tree tree) ≡ false = then_some-none _ _ (first-none _ _ none) in
-    not_lt limits.nodes (nodes_of_tree tree) small
-  where
-    not_lt : (m n : ℕ) → nat_lt m n ≡ false → n ≤ m
-    not_lt m n e = grind (arith, e)
 
 is_le : (m n : ℕ) → m ≤ n → nat_le m n ≡ true
 is_le m n le = grind (arith, le)
@@ -110,52 +50,115 @@ is_le m n le = grind (arith, le)
 is_above : (m n : ℕ) → n < m → nat_le m n ≡ false
 is_above m n lt = grind (arith, lt)
 
--- a number past the last one has no row
-absent : (limits : Limits) (tree : Rows) (ino : ℕ) → IsGrown limits tree → map.len tree + 3 ≤ ino → map.get tree ino ≡ None
-absent limits tree ino grown past =
-    elim (map.get tree ino) as (λ o. map.get tree ino ≡ o → o ≡ None) [
-      | None ↦ λ e. refl
-      | Some row ↦ λ e. absurd (omega (arith, grown.dense ino row e, past))
-    ] refl
+-- nobody is in flight
+nobody_bars : (flights : map.FinMap nat_cmp Flight) (seat : ℕ) → flights ≡ map.empty → (if map.contains_key flights seat then Some seat else first_key (filter (λ one. is_check one.1) (map.entries flights))) ≡ None
+nobody_bars flights seat none =
+    ap (λ (f : map.FinMap nat_cmp Flight). if map.contains_key f seat then Some seat else first_key (filter (λ one. is_check one.1) (map.entries f))) none
+    ∙ rw (map.get-empty nat_cmp seat, entries-empty {X = Flight}) refl
 
--- so a tree has room for a row more where no space is refused
-pub rows_fit : (limits : Limits) (tree : Rows) (path : List (List ℕ)) (up : Row) → 3 * limits.nodes + 4 ≤ limits.nids → IsGrown limits tree
-    → walk_parent tree path ≡ Ok up → space_refusal limits (effect tree (Create path) limits.nids) ≡ None → map.len tree + 1 ≤ limits.nodes
-rows_fit limits tree path up nids grown led room =
-    let is : effect tree (Create path) limits.nids ≡ map.insert tree limits.nids (new_row Regular limits.nids up.ino (last_name path)) = effect-create limits tree path up limits.nids up.ino led refl in
-    let fits = nodes_fit limits _ room in
-    let many = len-le-nodes (effect tree (Create path) limits.nids) in
-    let len : map.len (effect tree (Create path) limits.nids) ≡ map.len tree + 1 =
-    ap map.len is ∙ map.len-insert nat_cmp_total tree limits.nids _ ∙ ap (λ o. cond (is_some o) (map.len tree) (map.len tree + 1)) (absent limits tree limits.nids grown (omega (arith, nids, grown.fits))) in
-    omega (arith, fits, many, len)
+nobody_least : (flights : map.FinMap nat_cmp Flight) → flights ≡ map.empty → first_key (map.entries flights) ≡ None
+nobody_least flights none = ap (λ (f : map.FinMap nat_cmp Flight). first_key (map.entries f)) none ∙ ap first_key (entries-empty {X = Flight})
 
--- the number after the last one is free
-pub free_ino : (limits : Limits) (tree : Rows) (n : ℕ) → 3 * limits.nodes + 4 ≤ limits.nids → IsGrown limits tree → map.len tree + 1 ≤ limits.nodes
-    → IsFreeIno limits (state_of tree true n) (map.len tree + 3)
-free_ino limits tree n nids grown fits = record {
-  above = omega (arith, grown.rooted);
-  below = omega (arith, nids, fits);
-  no_row = fresh-grown tree grown;
-  no_base_row = map.get-insert nat_cmp_total map.empty ROOT root_row (map.len tree + 3)
-      ∙ ap (λ b. cond b (Some root_row) (map.get (map.empty {R = nat_cmp}) (map.len tree + 3))) (unsigned_tied (map.len tree + 3) ROOT ∙ not_eq (map.len tree + 3) ROOT (omega (arith, grown.rooted)))
-      ∙ map.get-empty nat_cmp (map.len tree + 3);
-  not_logged = set.contains-empty nat_cmp (map.len tree + 3);
-}
+-- a seat that came and left
+abbrev nobody : map.FinMap nat_cmp Flight
+nobody = map.empty
+
+abbrev alone_in : ℕ → Flight → map.FinMap nat_cmp Flight
+alone_in seat flight = map.insert nobody seat flight
+
+pub come_and_gone : (seat : ℕ) (flight : Flight) → map.remove (alone_in seat flight) seat ≡ nobody
+come_and_gone seat flight = map.same_map nat_cmp_total nat_cmp-IsAntisymmetric (map.remove (alone_in seat flight) seat) nobody (λ q. by_seat q (same_or_other q seat))
   where
-    not_eq : (m n : ℕ) → n < m → (m == n) ≡ false
-    not_eq m n lt = grind (arith, lt)
+    by_seat : (q : ℕ) → (q ≡ seat) ⊎ (q ≢ seat) → map.get (map.remove (alone_in seat flight) seat) q ≡ map.get nobody q
+    by_seat q (inl same) = ap (λ i. map.get (map.remove (alone_in seat flight) seat) i) same ∙ get_taken (alone_in seat flight) seat ∙ sym (map.get-empty nat_cmp q)
+    by_seat q (inr other) = get_taken-other (alone_in seat flight) seat q other ∙ get_put-other nobody seat flight q other
 
-module _ (limits : Limits) (faults : Faults) (tree : Rows) (n seat : ℕ) (path : List (List ℕ)) where
-  pub step-spent : MOST_ENTRIES ≤ n → StepBegin limits faults (state_of tree true n) seat (Create path) (unchanged (state_of tree true n) (replied reply.Spent))
-  step-spent late = on_true (nat_le MOST_ENTRIES n) _ _ (is_le _ _ late) refl
+-- the turns of a checkpoint of a seat, from its beginning to its tail and its end
+abbrev pub begun_turn : State → ℕ → Turn
+begun_turn state seat = turned (Began (Going plan.Sync)) (entry.Begin seat Sync ∷ entry.CpBegin seat plan.Sync ∷ []) [] (record state { flights = map.insert state.flights seat (InCheck plan.Sync) })
 
-  pub step-refused : (refused : Reply) → n < MOST_ENTRIES → refusal limits tree (Create path) ≡ Some refused
-      → StepBegin limits faults (state_of tree true n) seat (Create path) (did (state_of tree true n) seat (Create path) refused [] (state_of tree true n))
-  step-refused refused early is =
-      on_false (nat_le MOST_ENTRIES n) _ _ (is_above _ _ early) (on_none (barring_seat (state_of tree true n) seat) _ _ (barring-none tree n seat) (on_some (refusal limits tree (Create path)) _ _ refused is refl))
+abbrev pub tail_turn : State → ℕ → Turn
+tail_turn state seat = turned (Stepped step.Tail) (entry.CpTail seat ∷ []) [] (record state { pending = Some state.live })
 
-  pub step-made : (ino : ℕ) → n < MOST_ENTRIES → refusal limits tree (Create path) ≡ None → space_refusal limits (effect tree (Create path) limits.nids) ≡ None → IsFreeIno limits (state_of tree true n) ino
-      → StepBegin limits faults (state_of tree true n) seat (Create path) (did (state_of tree true n) seat (Create path) reply.Done (ino ∷ []) (called (state_of tree true n) (Create path) ino))
-  step-made ino early none room free =
-      on_false (nat_le MOST_ENTRIES n) _ _ (is_above _ _ early) (on_none (barring_seat (state_of tree true n) seat) _ _ (barring-none tree n seat) (on_none (refusal limits tree (Create path)) _ _ none
-      (on_none (space_refusal limits (effect tree (Create path) limits.nids)) _ _ room (inl (ino, free, refl)))))
+abbrev pub done_turn : State → ℕ → Turn
+done_turn state seat = turned (Stepped (step.Replied reply.Synced)) (entry.CpDone seat ∷ []) [] (left (based state state.live Up) seat)
+
+abbrev pub found_turn : State → Turn
+found_turn state = found state state.base [] 0
+
+abbrev pub made_turn : State → ℕ → List (List ℕ) → ℕ → Turn
+made_turn state seat path ino = did state seat (Create path) reply.Done (ino ∷ []) (called state (Create path) ino)
+
+abbrev pub refused_turn : State → ℕ → List (List ℕ) → Reply → Turn
+refused_turn state seat path refused = did state seat (Create path) refused [] state
+
+module _ (limits : Limits) (state : State) where
+  pub step-closed : (seat : ℕ) (request : Request) → state.mode ≡ Shut → Step limits calm state (Begin seat request) (unchanged state (replied reply.Closed))
+  step-closed seat request shut = inl (on_true (not (is_up state.mode)) _ _ (ap (λ (m : Mode). not (is_up m)) shut) refl)
+
+  pub step-spent : (seat : ℕ) (request : Request) → state.mode ≡ Up → MOST_ENTRIES ≤ state.entries → Step limits calm state (Begin seat request) (unchanged state (replied reply.Spent))
+  step-spent seat request up late = inl (on_false (not (is_up state.mode)) _ _ (ap (λ (m : Mode). not (is_up m)) up) (on_true (nat_le MOST_ENTRIES state.entries) _ _ (is_le MOST_ENTRIES state.entries late) refl))
+
+  pub step-memory : (seat : ℕ) (request : Request) → Step limits calm state (Begin seat request) (unchanged state (replied reply.Memory))
+  step-memory seat request = inr refl
+
+  module _ (up : state.mode ≡ Up) (early : state.entries < MOST_ENTRIES) (free : state.flights ≡ map.empty) where
+    pub step-refused : (seat : ℕ) (path : List (List ℕ)) (refused : Reply) → refusal limits state.live (Create path) ≡ Some refused → Step limits calm state (Begin seat (Create path)) (refused_turn state seat path refused)
+    step-refused seat path refused is = inl (
+        on_false (not (is_up state.mode)) _ _ (ap (λ (m : Mode). not (is_up m)) up) (
+        on_false (nat_le MOST_ENTRIES state.entries) _ _ (is_above MOST_ENTRIES state.entries early) (
+        on_none (barring_seat state seat) _ _ (nobody_bars state.flights seat free) (
+        on_some (refusal limits state.live (Create path)) _ _ refused is refl))))
+
+    pub step-kept_out : (seat : ℕ) (path : List (List ℕ)) (refused : Reply) → refusal limits state.live (Create path) ≡ None → space_refusal limits (effect state.live (Create path) limits.nids) ≡ Some refused
+        → Step limits calm state (Begin seat (Create path)) (refused_turn state seat path refused)
+    step-kept_out seat path refused none is = inl (
+        on_false (not (is_up state.mode)) _ _ (ap (λ (m : Mode). not (is_up m)) up) (
+        on_false (nat_le MOST_ENTRIES state.entries) _ _ (is_above MOST_ENTRIES state.entries early) (
+        on_none (barring_seat state seat) _ _ (nobody_bars state.flights seat free) (
+        on_none (refusal limits state.live (Create path)) _ _ none (
+        on_some (space_refusal limits (effect state.live (Create path) limits.nids)) _ _ refused is refl)))))
+
+    pub step-made : (seat : ℕ) (path : List (List ℕ)) (ino : ℕ) → refusal limits state.live (Create path) ≡ None → space_refusal limits (effect state.live (Create path) limits.nids) ≡ None → IsFreeIno limits state ino
+        → Step limits calm state (Begin seat (Create path)) (made_turn state seat path ino)
+    step-made seat path ino none room is = inl (
+        on_false (not (is_up state.mode)) _ _ (ap (λ (m : Mode). not (is_up m)) up) (
+        on_false (nat_le MOST_ENTRIES state.entries) _ _ (is_above MOST_ENTRIES state.entries early) (
+        on_none (barring_seat state seat) _ _ (nobody_bars state.flights seat free) (
+        on_none (refusal limits state.live (Create path)) _ _ none (
+        on_none (space_refusal limits (effect state.live (Create path) limits.nids)) _ _ room (inl (ino, is, refl)))))))
+
+    pub step-begun : (seat : ℕ) → Step limits calm state (Begin seat Sync) (begun_turn state seat)
+    step-begun seat = inl (
+        on_false (not (is_up state.mode)) _ _ (ap (λ (m : Mode). not (is_up m)) up) (
+        on_false (nat_le MOST_ENTRIES state.entries) _ _ (is_above MOST_ENTRIES state.entries early) (
+        on_none (barring_seat state seat) _ _ (nobody_bars state.flights seat free) (
+        on_none (least_in_flight state) _ _ (nobody_least state.flights free) refl))))
+
+  -- a checkpoint goes on to its tail, and to its end
+  pub step-tail : (seat : ℕ) → map.get state.flights seat ≡ Some (InCheck plan.Sync) → is_shut state.mode ≡ false → state.pending ≡ None → Step limits calm state (Go seat) (tail_turn state seat)
+  step-tail seat check up none = on_some (map.get state.flights seat) _ _ (InCheck plan.Sync) check (on_false (is_shut state.mode) _ _ up (on_none state.pending _ _ none (inr (inl refl))))
+
+  done-completes : (seat : ℕ) → is_unmount state seat ≡ false → done_turn state seat ≡ completes state seat plan.Sync
+  done-completes seat stays = ap (λ (b : Bool). turned (Stepped (step.Replied reply.Synced)) (if b then (entry.CpDone seat ∷ entry.Unmounted ∷ []) else (entry.CpDone seat ∷ [])) [] (left (based state state.live (if b then Shut else Up)) seat)) (sym stays)
+
+  pub step-done : (seat : ℕ) (tree : Rows) → map.get state.flights seat ≡ Some (InCheck plan.Sync) → is_shut state.mode ≡ false → state.pending ≡ Some tree → is_unmount state seat ≡ false → Step limits calm state (Go seat) (done_turn state seat)
+  step-done seat tree check up pending stays =
+      on_some (map.get state.flights seat) _ _ (InCheck plan.Sync) check (on_false (is_shut state.mode) _ _ up (on_some state.pending _ _ tree pending (inl (done-completes seat stays))))
+
+  pub step-mounted : state.mode ≡ Up → Step limits calm state Mount (unchanged state AlreadyMounted)
+  step-mounted up = on_true (not (is_shut state.mode)) _ _ (ap (λ (m : Mode). not (is_shut m)) up) refl
+
+  pub step-no_memory : state.mode ≡ Shut → Step limits calm state Mount (unchanged state (machine.NotMounted machine.NoMemory))
+  step-no_memory shut = on_false (not (is_shut state.mode)) _ _ (ap (λ (m : Mode). not (is_shut m)) shut) (inr (inr (inr (inr (inr refl)))))
+
+  pub step-bad : state.mode ≡ Shut → Step limits calm state Mount (unchanged state (machine.NotMounted machine.BadImage))
+  step-bad shut = on_false (not (is_shut state.mode)) _ _ (ap (λ (m : Mode). not (is_shut m)) shut) (inr (inr (inr (inr (inl refl)))))
+
+  pub step-found : state.mode ≡ Shut → state.marks ≡ [] → state.acknowledged ≡ 0 → Step limits calm state Mount (found_turn state)
+  step-found shut none zero =
+      on_false (not (is_shut state.mode)) _ _ (ap (λ (m : Mode). not (is_shut m)) shut)
+      (inl (0, omega (arith, zero), omega arith, ap (λ (marks : List Mark). found state state.base (take 0 marks) 0) (sym none)))
+
+  pub step-crashed : Step limits calm state Crash (crashed state)
+  step-crashed = refl

@@ -1,13 +1,22 @@
 -- Events and answers of a core as those of the machine, and what one call comes to.
-use Rattle.std.specs.Prelude.{◌≡◌, ℕ, List, [], ◌∷◌, ◌++◌}
+use Rattle.std.specs.Prelude.{◌≡◌, ◌≢◌, ◌⊎◌, ℕ, ◌≤◌, List, [], ◌∷◌, ◌++◌, length, IfSome, Option, None}
 use Rattle.std.specs.List.{AllByRecursion}
+use Rattle.f2_format.specs.Geometry.{Extent}
+use Rattle.f2_disk.specs.Contents.{Contents}
+use Rattle.f2_model.specs.State.{State, initial}
 use Rattle.f2_model.specs.Step as machine
-use Rattle.f2_model.specs.Run.{Happening, entries_of, choices_of}
-use Rattle.f2_model.specs.declared.replies.Begun.TheVariants.{Replied}
+use Rattle.f2_model.specs.Step.{Began, Stepped, Go, replied}
+use Rattle.f2_model.specs.Run.{Happening, Happened, entries_of, choices_of}
+use Rattle.f2_model.specs.declared.replies.Begun.TheVariants.{Going, Replied}
+use Rattle.f2_model.specs.declared.replies.Plan.{Plan}
+use Rattle.f2_model.specs.declared.replies.Reply.{Reply}
+use Rattle.f2_model.specs.declared.replies.Reply.TheVariants.{WriteFault}
+use Rattle.f2_model.specs.declared.replies.Step.TheVariants as step
 use Rattle.f2_model.specs.declared.requests.Request.{Request}
-use Rattle.f2_model.specs.declared.requests.Request.TheVariants.{Create}
-use Rattle.f2_core.specs.Room.{HappenedWithRoom}
-use Rattle.f2_core.specs.Seen.{Seen}
+use Rattle.f2_model.specs.declared.requests.Request.TheVariants.{Create, Sync}
+use Rattle.f2_image.specs.Meanings.{IsSafe}
+use Rattle.f2_laid.specs.Laid.{root_alone}
+use Rattle.f2_core.specs.Seen.{Seen, IsIn, limits_of}
 use Rattle.f2_core.specs.declared.events.Event.{Event}
 use Rattle.f2_core.specs.declared.events.Event.TheVariants as event
 use Rattle.f2_core.specs.declared.events.Answer.{Answer}
@@ -15,9 +24,10 @@ use Rattle.f2_core.specs.declared.events.Answer.TheVariants as answer
 use Rattle.f2_core.specs.declared.events.MountFault.{MountFault}
 use Rattle.f2_core.specs.declared.events.MountFault.TheVariants as fault
 
--- the calls that a core takes so far
+-- the calls that a core takes so far; a checkpoint of the mount's seat would be an unmount
 abbrev pub IsServed : Event → Type 0
 IsServed (event.Begin seat (Create path)) = Unit {0}
+IsServed (event.Begin seat Sync) = seat ≢ machine.MOUNT_SEAT
 IsServed (event.Begin seat _) = ⊥
 IsServed event.Mount = Unit {0}
 
@@ -26,6 +36,9 @@ event_of (event.Begin seat request) = machine.Begin seat request
 event_of event.Mount = machine.Mount
 
 abbrev pub refusal_of : MountFault → machine.MountRefusal
+refusal_of fault.Read = machine.ReadFailed
+refusal_of fault.Write = machine.WriteFailed
+refusal_of fault.Bad = machine.BadImage
 refusal_of fault.Memory = machine.NoMemory
 
 abbrev pub answer_of : Answer → machine.Answer
@@ -34,42 +47,121 @@ answer_of (answer.Found rows) = machine.Found rows
 answer_of answer.Mounted = machine.AlreadyMounted
 answer_of (answer.Bad refused) = machine.NotMounted (refusal_of refused)
 
--- the answers that events have: a create is over with its reply, and a mount tells what it came to
-abbrev pub IsAnswered : machine.Event → machine.Answer → Type 0
-IsAnswered (machine.Begin seat request) (machine.Began (Replied told)) = Unit {0}
-IsAnswered machine.Mount (machine.Found rows) = Unit {0}
-IsAnswered machine.Mount machine.AlreadyMounted = Unit {0}
-IsAnswered machine.Mount (machine.NotMounted refused) = Unit {0}
-IsAnswered _ _ = ⊥
+-- the answers that tell a fault of the disk
+abbrev pub TellsFault : machine.Answer → Type 0
+TellsFault (machine.Began (Replied WriteFault)) = Unit {0}
+TellsFault (machine.NotMounted machine.ReadFailed) = Unit {0}
+TellsFault (machine.NotMounted machine.WriteFailed) = Unit {0}
+TellsFault _ = ⊥
 
--- the events that come with one that has this answer: those of the checkpoint that a mount makes whole, and else none
-abbrev pub IsFollowed : machine.Answer → List Happening → Type 0
-IsFollowed (machine.Found rows) rest = AllByRecursion (λ more. more.event ≡ machine.Go machine.MOUNT_SEAT) rest
-IsFollowed _ rest = rest ≡ []
+-- the events of a call in flight: its seat goes on, and the last event alone tells the reply
+pub record GoesOn (seat : ℕ) (told : Reply) (events : List Happening) : Type 0 where
+  pub before : List Happening
+  pub last : Happening
+  pub whole : events ≡ before ++ last ∷ []
+  pub own : AllByRecursion (λ one. one.event ≡ Go seat) events
+  pub untold : AllByRecursion (λ one. (early : Reply) → one.turn.answer ≢ Stepped (step.Replied early)) before
+  pub reply : last.turn.answer ≡ Stepped (step.Replied told)
 
--- the first of the events is this one with this answer
-abbrev pub IsEvent : machine.Event → machine.Answer → List Happening → Type 0
-IsEvent event answer [] = ⊥
-IsEvent event answer (one ∷ rest) = (one.event ≡ event) × (one.turn.answer ≡ answer) × IsFollowed answer rest
+-- one event that is over with its answer
+pub record IsShort (event : machine.Event) (told : machine.Answer) (events : List Happening) : Type 0 where
+  pub one : Happening
+  pub whole : events ≡ one ∷ []
+  pub begun : one.event ≡ event
+  pub answered : one.turn.answer ≡ told
 
--- one call of a core: the machine's events that it came to, by what they leave of the state and the history
-pub record ComesTo {D : Type 0} (old new : Seen D) (event : machine.Event) (answer : machine.Answer) : Type 0 where
-  pub events : List Happening
-  pub happened : HappenedWithRoom old.limits old.state events new.state
-  pub told : IsEvent event answer events
-  pub answered : IsAnswered event answer
+-- a call that goes on after its beginning
+pub record IsLongCall (seat : ℕ) (request : Request) (told : Reply) (events : List Happening) : Type 0 where
+  pub first : Happening
+  pub rest : List Happening
+  pub whole : events ≡ first ∷ rest
+  pub plan : Plan
+  pub begun : first.event ≡ machine.Begin seat request
+  pub going : first.turn.answer ≡ Began (Going plan)
+  pub goes_on : GoesOn seat told rest
+
+-- the events of a call from its beginning to its reply
+abbrev pub IsCall : ℕ → Request → Reply → List Happening → Type 0
+IsCall seat request told events = IsShort (machine.Begin seat request) (replied told) events ⊎ IsLongCall seat request told events
+
+-- a mount that found a tree, and its checkpoint up to its end
+pub record IsMount (rows : ℕ) (events : List Happening) : Type 0 where
+  pub first : Happening
+  pub rest : List Happening
+  pub whole : events ≡ first ∷ rest
+  pub begun : first.event ≡ machine.Mount
+  pub found : first.turn.answer ≡ machine.Found rows
+  pub told : Reply
+  pub goes_on : GoesOn machine.MOUNT_SEAT told rest
+
+-- The events that one call of a core stands for: a call runs to its reply, and a mount that finds a tree makes its
+-- checkpoint; a call has a reply, and a mount an answer of its own.
+abbrev pub StandsFor : machine.Event → machine.Answer → List Happening → Type 0
+StandsFor (machine.Begin seat request) (machine.Began (Replied told)) events = IsCall seat request told events
+StandsFor machine.Mount (machine.Found rows) events = IsMount rows events
+StandsFor machine.Mount machine.AlreadyMounted events = IsShort machine.Mount machine.AlreadyMounted events
+StandsFor machine.Mount (machine.NotMounted refused) events = IsShort machine.Mount (machine.NotMounted refused) events
+StandsFor _ _ events = ⊥
+
+-- the most entries that one call leaves
+abbrev pub MOST_LEFT : ℕ
+MOST_LEFT = 4
+
+-- one call leads from a state to another by events of the machine
+pub record LeadsTo (extent : Extent) (from : State) (event : machine.Event) (told : machine.Answer) (events : List Happening) (to : State) : Type 0 where
+  pub happened : Happened (limits_of extent) from events to
+  pub stands : StandsFor event told events
+  pub few : length (entries_of events) ≤ MOST_LEFT
+
+-- a core goes from a state to another, and its history by what the events leave; each image of its disk is one that may
+-- remain
+pub record GoesTo {D : Type 0} (old new : Seen D) (told : Option Contents) (events : List Happening) (to : State) : Type 0 where
   pub entries : new.history.entries ≡ old.history.entries ++ entries_of events
   pub choices : new.history.choices ≡ old.history.choices ++ choices_of events
-  pub limits : new.limits ≡ old.limits
-  pub disk : new.disk ≡ old.disk
+  pub state : IsIn new.geometry told new.volume new.history to
+  pub safe : IfSome told (λ lists. IsSafe lists to)
 
--- calls of a core one after another: each comes to its event with its answer
-abbrev pub ComeTo : {D : Type 0} → Seen D → List Event → List Answer → Seen D → Type 0
-ComeTo old [] [] new = old ≡ new
-ComeTo old [] (answer ∷ answers) new = ⊥
-ComeTo old (event ∷ events) [] new = ⊥
-ComeTo {D} old (event ∷ events) (answer ∷ answers) new = (mid : Seen D) × ComesTo old mid (event_of event) (answer_of answer) × ComeTo mid events answers new
+-- one call of a core that is in a state and meets no fault
+pub record ComesTo {D : Type 0} (old new : Seen D) (told : Option Contents) (from : State) (event : machine.Event) (answered : machine.Answer) : Type 0 where
+  pub events : List Happening
+  pub to : State
+  pub leads : LeadsTo old.geometry from event answered events to
+  pub goes : GoesTo old new told events to
 
--- some first events came to some answers
-abbrev pub ComeToFirst : {D : Type 0} → Seen D → List Event → Seen D → Type 0
-ComeToFirst old events new = (first : List Event) × ((rest : List Event) × ((events ≡ first ++ rest) × ((answers : List Answer) × ComeTo old first answers new)))
+-- calls one after another lead from a state to another
+abbrev pub LeadAll : Extent → State → List Event → List Answer → List Happening → State → Type 0
+LeadAll extent from [] [] events to = (events ≡ []) × (from ≡ to)
+LeadAll extent from [] (answer ∷ answers) events to = ⊥
+LeadAll extent from (event ∷ rest) [] events to = ⊥
+LeadAll extent from (event ∷ rest) (answer ∷ answers) events to =
+    (some more : List Happening) × (mid : State) × LeadsTo extent from (event_of event) (answer_of answer) some mid × LeadAll extent mid rest answers more to × (events ≡ some ++ more)
+
+-- calls of a core one after another
+pub record ComeTo {D : Type 0} (old new : Seen D) (told : Option Contents) (from : State) (calls : List Event) (answers : List Answer) : Type 0 where
+  pub events : List Happening
+  pub to : State
+  pub leads : LeadAll old.geometry from calls answers events to
+  pub goes : GoesTo old new told events to
+
+-- some first calls came to some answers
+pub record ComeToFirst {D : Type 0} (old new : Seen D) (told : Option Contents) (from : State) (calls : List Event) : Type 0 where
+  pub first : List Event
+  pub rest : List Event
+  pub whole : calls ≡ first ++ rest
+  pub answers : List Answer
+  pub come : ComeTo old new told from first answers
+
+-- a closed core on a disk, with an empty history, which is in the state before the first mount
+pub record IsMade {D : Type 0} (extent : Extent) (told : Option Contents) (core : Seen D) : Type 0 where
+  pub sizes : core.geometry ≡ extent
+  pub closed : core.volume ≡ None
+  pub state : IsIn extent told core.volume core.history (initial root_alone [])
+
+-- a core lost power
+pub record HasCrashed {D : Type 0} (old new : Seen D) (told : Option Contents) (from : State) : Type 0 where
+  pub one : Happening
+  pub event : one.event ≡ machine.Crash
+  pub happened : Happened (limits_of old.geometry) from (one ∷ []) one.turn.after
+  pub few : length (entries_of (one ∷ [])) ≤ MOST_LEFT
+  pub closed : new.volume ≡ None
+  pub goes : GoesTo old new told (one ∷ []) one.turn.after

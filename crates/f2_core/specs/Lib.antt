@@ -1,5 +1,6 @@
 -- What contracts see of a core, and what its events come to.
-pub mod Room
 pub mod Seen
+pub mod Writes
+pub mod Found
 pub mod Added
 pub mod Events

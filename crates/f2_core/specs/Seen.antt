@@ -1,56 +1,113 @@
--- What contracts see of a core.
-use Rattle.std.specs.Prelude.{◌≡◌, ℕ, ◌+◌, ◌*◌, ◌<◌, ◌≤◌, Bool, true, false, List, [], length, if◌then◌else◌, Option, Some, None}
+-- What contracts see of a core, and which state of the machine it is in.
+use Rattle.std.specs.Prelude.{◌≡◌, ◌≢◌, ◌⊎◌, ℕ, ◌+◌, ◌<◌, ◌≤◌, [], length, IfSome, Option, Some, None, if◌then◌else◌}
+use Rattle.std.specs.Option.{option_map}
 use Rattle.std.specs.FinMap as map
-use Rattle.f2_model.specs.Tree.{Rows, ROOT}
+use Rattle.std.specs.FinSet as set
+use Rattle.f2_format.specs.Geometry.{Extent, IsGeometry, node_third, data_third, nid_limit}
+use Rattle.f2_disk.specs.Contents.{Contents, alone}
+use Rattle.f2_model.specs.Tree.{Rows, ROOT, IsGoodTree}
 use Rattle.f2_model.specs.declared.bounds.Limits.{Limits}
+use Rattle.f2_model.specs.declared.rows.Row.{Row}
+use Rattle.f2_model.specs.declared.rows.Kind.TheVariants.{Regular}
 use Rattle.f2_model.specs.State.{State, Mode, Shut, Up, initial}
 use Rattle.f2_model.specs.Step.{is_up}
+use Rattle.f2_model.specs.Run.{IsRun}
 use Rattle.f2_model.specs.History.{History}
-use Rattle.f2_model.specs.declared.rows.Row.{Row}
-use Rattle.f2_model.specs.declared.rows.Kind.TheVariants.{Directory}
-use Rattle.f2_core.specs.Room.{IsRunWithRoom}
+use Rattle.f2_image.specs.Images.{Image}
+use Rattle.f2_image.specs.Faults.{MOST_VERSION}
+use Rattle.f2_laid.specs.Laid.{IsKept, IsLaid, root_alone}
+use Rattle.f2_laid.specs.declared.stored.Stored.{Stored}
+use Rattle.f2_core.specs.declared.volumes.Volume.{Volume}
 
--- the disk that a core holds, what its image grants, its state as callers know it, and its history
+-- the bytes of a file that a volume takes
+abbrev pub FILE_SIZE : ℕ
+FILE_SIZE = 3780608
+
+-- what an image of these sizes grants
+abbrev pub limits_of : Extent → Limits
+limits_of extent = record { nodes = node_third extent; data_blocks = data_third extent; nids = nid_limit extent; size = FILE_SIZE }
+
+-- the disk that a core holds, the sizes of its image, what it knows while it is open, and its history
 pub record Seen (D : Type 0) : Type 0 where
   pub disk : D
-  pub limits : Limits
-  pub state : State
+  pub geometry : Extent
+  pub volume : Option Volume
   pub history : History
-
--- the tree of the root alone
-abbrev pub root_row : Row
-root_row = record { ino = ROOT; kind = Directory; parent = ROOT; name = []; size = 0; pages = map.empty }
-
-abbrev pub bare_tree : Rows
-bare_tree = map.insert map.empty ROOT root_row
-
--- the state of a core that has only made files since its mount
-abbrev pub state_of : Rows → Bool → ℕ → State
-state_of tree is_open entries = record (initial bare_tree []) { live = tree; mode = if is_open then Up else Shut; entries = entries }
 
 -- the entries for which a core takes room at its mount: those before a call may begin, and 32,768 more
 abbrev pub HISTORY_ROOM : ℕ
 HISTORY_ROOM = 294912
 
--- a tree to which files were added in the order of their inos
-pub record IsGrown (limits : Limits) (tree : Rows) : Type 0 where
-  pub rooted : 0 < map.len tree
-  pub fits : map.len tree ≤ limits.nodes
-  pub dense : (ino : ℕ) (row : Row) → map.get tree ino ≡ Some row → ino < map.len tree + 3
+-- a row is that of a file without pages in the root
+abbrev pub IsEmptyFile : Row → Type 0
+IsEmptyFile row = (row.kind ≡ Regular) × (row.parent ≡ ROOT) × (row.pages ≡ map.empty)
 
--- what holds of every core
-pub record IsCore (limits : Limits) (tree : Rows) (is_open : Bool) (history : History) : Type 0 where
-  pub run : IsRunWithRoom limits (initial bare_tree []) history.entries history.choices (state_of tree is_open (length history.entries))
-  pub nids : 3 * limits.nodes + 4 ≤ limits.nids
-  pub grown : IsGrown limits tree
-  pub closed : is_open ≡ false → (tree ≡ bare_tree) × (history.entries ≡ []) × (history.spare ≡ 0)
-  pub room : is_open ≡ true → length history.entries + history.spare ≡ HISTORY_ROOM
+-- a tree of empty files in the root alone, made in the order of their inos
+pub record IsFlat (extent : Extent) (tree : Rows) : Type 0 where
+  pub good : IsGoodTree FILE_SIZE tree
+  pub fits : map.len tree ≤ node_third extent
+  pub dense : (ino : ℕ) (row : Row) → map.get tree ino ≡ Some row → (ROOT ≤ ino) × (ino < map.len tree + ROOT)
+  pub files : (ino : ℕ) (row : Row) → map.get tree ino ≡ Some row → ino ≢ ROOT → IsEmptyFile row
 
--- a closed core on a disk, which knows nothing yet
-abbrev pub IsShut : {D : Type 0} → D → Limits → Seen D → Type 0
-IsShut disk limits core =
-    (core.disk ≡ disk) × (core.limits ≡ limits) × (core.state ≡ initial bare_tree []) × (core.history.entries ≡ []) × (core.history.choices ≡ [])
+-- a row is the root's, or that of a file without pages in the root, with one of the first so many inos, and isn't too long
+pub record IsFlatRow (rows : ℕ) (row : Row) : Type 0 where
+  pub low : ROOT ≤ row.ino
+  pub high : row.ino < rows + ROOT
+  pub size : row.size ≤ FILE_SIZE
+  pub file : (row.ino ≡ ROOT) ⊎ IsEmptyFile row
+
+-- what holds of an open volume
+pub record IsOpen (extent : Extent) (history : History) (volume : Volume) : Type 0 where
+  pub flat : IsFlat extent volume.tree
+  pub sizes : volume.stored.geometry ≡ extent
+  pub kept : IsKept extent volume.stored.places
+  pub version : volume.stored.version ≤ MOST_VERSION + length history.entries
+  pub room : HISTORY_ROOM ≤ length history.entries + history.spare
+
+-- what holds of every core on a disk of so many blocks
+pub record IsCore (extent : Extent) (blocks : ℕ) (volume : Option Volume) (history : History) : Type 0 where
+  pub sizes : IsGeometry extent
+  pub held : extent.blocks ≤ blocks
+  pub opened : IfSome volume (IsOpen extent history)
+
+abbrev pub mode_of : Option Volume → Mode
+mode_of None = Shut
+mode_of (Some volume) = Up
+
+-- a disk holds one image, in which a tree is laid out as a checkpoint tells
+pub record IsHeld (extent : Extent) (lists : Contents) (base : Rows) (stored : Stored) : Type 0 where
+  pub image : Image
+  pub one : lists ≡ alone image
+  pub laid : IsLaid image base stored
+  pub sizes : stored.geometry ≡ extent
+
+-- what an open volume knows is so in a state
+pub record Knows (state : State) (stored : Stored) (volume : Volume) : Type 0 where
+  pub live : state.live ≡ volume.tree
+  pub told : volume.stored ≡ stored
+
+-- A core that has met no fault is in a state of the machine: one that its history leads to from the tree of the root
+-- alone, in which nobody is in flight and nothing is marked, and whose base stands on the disk.
+pub record IsIn (extent : Extent) (told : Option Contents) (volume : Option Volume) (history : History) (state : State) : Type 0 where
+  pub run : IsRun (limits_of extent) (initial root_alone []) history.entries history.choices state
+  pub mode : state.mode ≡ mode_of volume
+  pub flights : state.flights ≡ map.empty
+  pub marks : state.marks ≡ []
+  pub acknowledged : state.acknowledged ≡ 0
+  pub pending : state.pending ≡ None
+  pub logged : state.logged ≡ set.empty
+  pub entries : state.entries ≡ length history.entries
+  pub flat : IsFlat extent state.base
+  -- the base has the first of the live rows
+  pub older : (ino : ℕ) (row : Row) → map.get state.base ino ≡ Some row → IfSome volume (λ (opened : Volume). ino < map.len opened.tree + ROOT)
+  pub stored : Stored
+  pub version : stored.version ≤ length history.entries + 1
+  pub known : IfSome volume (Knows state stored)
+  pub held : IfSome told (λ lists. IsHeld extent lists state.base stored)
 
 -- the tree that calls see, of an open volume
 abbrev pub live_where_up : State → Option Rows
 live_where_up state = if is_up state.mode then Some state.live else None
+
+abbrev pub tree_of : Option Volume → Option Rows
+tree_of volume = option_map (λ (opened : Volume). opened.tree) volume

@@ -1,5 +1,6 @@
 //! What may happen to a core, and what it answers.
 use f2_model::{Begun, Request};
+use thiserror::Error;
 
 /// What may happen to a volume.
 #[derive(Debug, Drop)]
@@ -10,10 +11,20 @@ pub enum Event {
     Mount,
 }
 
-/// Why a mount finds no tree.
-#[derive(Clone, Copy, Debug, PartialEq, Eq)]
+/// Why a mount finds no tree, or an image isn't made.
+#[derive(Clone, Copy, Debug, PartialEq, Eq, Error)]
 pub enum MountFault {
-    /// Memory was refused; nothing changed.
+    /// A read of the disk failed.
+    #[error("the image can't be read")]
+    Read,
+    /// A write or a flush of the disk failed.
+    #[error("the image can't be written")]
+    Write,
+    /// The image has no tree of files in the root alone, or its version is above 4,000,000,000.
+    #[error("the image has no tree that can be mounted")]
+    Bad,
+    /// Memory was refused; nothing changed but for a flush.
+    #[error("out of memory")]
     Memory,
 }
 

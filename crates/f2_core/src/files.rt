@@ -1,36 +1,18 @@
 //! Adding files to a tree.
-ghost use Rattle.std.specs.Prelude.{◌≡◌, ◌⊎◌, ◌+◌, ◌*◌, ◌<◌, ◌≤◌, Some, None, IsOk, IfOk, IfSome, MatchResult};
+ghost use Rattle.std.specs.Prelude.{◌≡◌, IfOk};
 ghost use Rattle.std.specs.FinMap as map;
 ghost use Rattle.f2_model.specs.Call.{effect, refusal};
 ghost use Rattle.f2_model.specs.Step.{outcome_of};
 ghost use Rattle.f2_model.specs.Tree.{last_name};
 ghost use Rattle.f2_model.specs.declared.requests.Request.TheVariants.{Create};
 ghost use Rattle.f2_model.specs.declared.replies.Reply.TheVariants as reply;
-ghost use Rattle.f2_core.specs.Seen.{IsGrown, bare_tree};
+ghost use Rattle.f2_core.specs.Seen.{IsFlat};
 ghost use Rattle.f2_core.specs.Added.{MakesPlace, AddsFile};
 
 use crate::walks::{ROOT, walk, walk_parent};
-use f2_model::{Kind, Limits, Name, Outcome, Pages, Path, Reply, Row, Space, Tree};
+use f2_layout::Geometry;
+use f2_model::{Kind, Name, Outcome, Pages, Path, Reply, Row, Space, Tree};
 use std::alloc::{AllocError, Global};
-
-/// The tree of the root alone; none where memory is refused.
-pub(crate) fn bare_tree(alloc: Global) -> Option<Tree>
-    ensures { IfSome result (λ tree. tree ≡ bare_tree) }
-{
-    let root = Row {
-        ino: ROOT,
-        kind: Kind::Directory,
-        parent: ROOT,
-        name: Name::new(alloc),
-        size: 0,
-        pages: Pages::new(alloc),
-    };
-    let mut tree = Tree::new(alloc);
-    match tree.put(root) {
-        Ok(()) => Some(tree),
-        Err(_) => None,
-    }
-}
 
 /// The ino of the directory in which a file may be made, or the first refusal.
 fn place_for(tree: &Tree, path: &Path) -> Result<u32, Reply>
@@ -60,27 +42,26 @@ fn last_name(alloc: Global, path: &Path) -> Result<Name, AllocError>
 pub(crate) fn add_file(
     alloc: Global,
     tree: &mut Tree,
-    limits: Limits,
+    geometry: &Geometry,
     path: &Path,
 ) -> Result<Result<u32, Reply>, AllocError>
-    requires nids { 3 * limits.nodes + 4 ≤ limits.nids }
-    requires grown { IsGrown limits tree.old }
-    ensures added { AddsFile limits tree.old tree.new path.now result }
-    ensures grown { IsGrown limits tree.new }
+    requires { IsFlat geometry.now tree.old }
+    ensures added { AddsFile geometry.now tree.old tree.new path.now result }
+    ensures flat { IsFlat geometry.now tree.new }
 {
     let parent = match place_for(tree, path) {
         Ok(parent) => parent,
         Err(refusal) => return Ok(Err(refusal)),
     };
     let rows = tree.len();
-    if rows >= limits.nodes as usize {
+    if rows >= geometry.cn() as usize {
         return Ok(Err(Reply::NoSpace {
             space: Space::Node,
             need: rows as u32 + 1,
-            limit: limits.nodes,
+            limit: geometry.cn(),
         }));
     }
-    let ino = rows as u32 + 3;
+    let ino = rows as u32 + ROOT;
     let name = last_name(alloc, path)?;
     let row = Row {
         ino,

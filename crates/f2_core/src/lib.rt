@@ -1,21 +1,29 @@
-//! The volume as a machine of events, kept plainly: its tree is a map of rows.
+//! The volume as a machine of events, kept plainly: its tree is a map of rows, and a checkpoint writes all of it.
 //!
-//! What the layer above uses is the contract of [`Core::step`]: each event is a step of the abstract
-//! machine wherever its call has room, with the answer that the machine gives, and the history goes on
-//! by what the step leaves. So the history of a core is a run of the machine from the tree of the root
-//! alone, which is the invariant of its type.
+//! What the layer above uses is the contract of [`Core::step`]: from a state of the abstract machine each event leads to
+//! another one by the machine's own steps, the history goes on by what they leave, and whatever a crash may leave of the
+//! disk stands for the tree of the last checkpoint. So the history of a core is a run of the machine from the tree of
+//! the root alone.
 //!
-//! So far a core makes files and is mounted, and writes no image: a mount finds the tree of the root
-//! alone. `specs/Seen` says what contracts see of a core, `specs/Events` what one call comes to,
-//! `specs/Room` what is said of calls that have room, and `specs/Added` how a file is added.
+//! So far a core has empty files in the root. [`Core::made`] makes its image; a sync writes the whole tree as the next
+//! checkpoint; a mount builds the tree from the blocks alone. Nothing is claimed from an event on that meets a fault of
+//! the disk.
+//!
+//! `specs/Seen` says what contracts see of a core and which states it may be in, `specs/Events` what a call comes to,
+//! `specs/Added` how a file is added, and `specs/Writes` how many writes an event makes at most.
 #![tactic(auto)]
 
+mod checkpoints;
+mod entries;
 mod events;
 mod files;
+mod flat;
 mod machine;
 #[cfg(test)]
 mod tests;
+mod volumes;
 mod walks;
 
 pub use events::{Answer, Event, MountFault};
-pub use machine::Core;
+pub use machine::{Core, making_writes};
+pub use volumes::Volume;

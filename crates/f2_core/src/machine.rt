@@ -1,16 +1,24 @@
 //! The core.
-ghost use Rattle.std.specs.Prelude.{◌≡◌, ◌+◌, ◌*◌, ◌<◌, ◌≤◌, [], IfOk, OnOk, OnErr, MatchResult, MatchOption, Option, Some, None};
-ghost use Rattle.std.specs.Option.{option_copied};
+ghost use Rattle.std.specs.Prelude.{◌≡◌, ◌≢◌, ◌<◌, ◌≤◌, ◌⊎◌, [], Some, None, length, IfErr, IfOk, IsSome, OnErr, OnOk};
 ghost use Rattle.std.specs.List.{AllByRecursion};
-ghost use Rattle.f2_disk.specs.Meter.{HasMoreRoom};
-ghost use Rattle.f2_model.specs.State.{initial};
+ghost use Rattle.std.specs.Option.{option_copied};
+ghost use Rattle.f2_disk.specs.Meter.{HasFailed, HasMoreRoom, IsCalm, IsWithin};
+ghost use Rattle.f2_image.specs.Faults.{MOST_VERSION};
+ghost use Rattle.f2_model.specs.State.{State};
 ghost use Rattle.f2_model.specs.Step as machine;
-ghost use Rattle.f2_model.specs.declared.requests.Request.TheVariants.{Create};
+ghost use Rattle.f2_model.specs.declared.requests.Request.TheVariants.{Create, Sync};
+ghost use Rattle.f2_core.specs.Events.{TellsFault};
+ghost use Rattle.f2_core.specs.Writes.{checkpoint_writes, making_writes as most_making};
 
+use crate::checkpoints::find;
+use crate::entries::{add_checkpoint, add_fault, add_unfound, sync_begun};
 use crate::events::{Answer, Event, MountFault};
-use crate::files::{add_file, bare_tree, outcome_of};
+use crate::files::{add_file, outcome_of};
+use crate::volumes::Volume;
 use f2_disk::{Bench, Disk};
-use f2_model::{Begun, Entry, Limits, Log, Outcome, Path, Plan, Reply, Request, Tree};
+use f2_layout::Geometry;
+use f2_model::{Begun, Entry, Log, Path, Reply, Request, Tree};
+use f2_plain_save::{SaveFault, mkfs, save};
 use std::alloc::{AllocError, Global};
 use std::marker::Model;
 
@@ -25,71 +33,107 @@ const MOUNT_SEAT: u8 = 0;
 
 /// A volume on a disk, as a machine that takes one event at a time.
 #[derive(Drop)]
-pub struct Core<D> {
+pub struct Core<D: Disk> {
     disk: D,
-    limits: Limits,
-    tree: Tree,
-    is_open: bool,
+    geometry: Geometry,
+    volume: Option<Volume>,
     history: Log,
     alloc: Global,
 }
 
-impl<D> Model for Core<D> {
-    ghost use Rattle.std.specs.Prelude.{length, ℕ};
-    ghost use Rattle.std.specs.Coded.{Coded, codes, coded_ℕ, coded×};
-    ghost use Rattle.std.specs.FinMap as map;
-    ghost use Rattle.std.specs.FinSet as set;
-    ghost use Rattle.std.specs.Ordering.{nat_cmp};
-    ghost use Rattle.f2_model.specs.State.{Flight, Pairs, Inos};
-    ghost use Rattle.f2_model.specs.contracts.trees.Tree as coded_tree;
-    ghost use Rattle.f2_model.specs.contracts.rows.Row as coded_row;
-    ghost use Rattle.f2_core.specs.Seen.{Seen, IsCore, state_of};
+impl<D: Disk> Model for Core<D> {
+    ghost use Rattle.std.specs.Coded.{codes};
+    ghost use Rattle.f2_core.specs.Seen.{Seen, IsCore};
+    ghost use Rattle.f2_model.specs.contracts.trees.Tree as tree;
+    ghost use Rattle.f2_laid.specs.contracts.places.Places as places;
 
     ghost Value = { Seen D };
 
-    ghost coded = { let flights : Coded (map.FinMap nat_cmp Flight) = map.code coded_ℕ (Prim.hlevel codes) in
-        let pairs : Coded Pairs = set.code (coded× coded_ℕ coded_ℕ) in
-        let inos : Coded Inos = set.code coded_ℕ in
-        Prim.hlevel (codes, coded_tree.the_row.coded, coded_row.the_row.coded, flights, pairs, inos, D.code) };
+    ghost coded = { Prim.hlevel (codes, tree.the_row.coded, places.the_row.coded) };
 
-    ghost view = { λ c. record { disk = c.disk; limits = c.limits; state = state_of c.tree c.is_open (length c.history.entries); history = c.history } };
+    ghost view = { λ c. record { disk = c.disk; geometry = c.geometry; volume = c.volume; history = c.history } };
 
-    ghost invariant = { λ c. IsCore c.limits c.tree c.is_open c.history };
+    ghost invariant = { λ c. IsCore c.geometry (D.meter c.disk).blocks c.volume c.history };
+}
+
+/// The most writes that making an image of these sizes takes.
+pub fn making_writes(geometry: &Geometry) -> u32
+    ensures { result ≡ most_making geometry.now }
+{
+    geometry.data_first() + 2 + (geometry.nat() + 4)
+}
+
+/// The most writes that a checkpoint takes.
+fn checkpoint_writes(geometry: &Geometry) -> u32
+    ensures { result ≡ checkpoint_writes geometry.now }
+{
+    geometry.cn() + geometry.cd() + geometry.nat() + 3
+}
+
+/// Why an image isn't made, by why its blocks weren't written.
+fn unsaved(fault: SaveFault) -> MountFault
+    ensures write { fault ≡ SaveFault.Write → result ≡ MountFault.Write }
+    ensures memory { fault ≡ SaveFault.Memory → result ≡ MountFault.Memory }
+{
+    match fault {
+        SaveFault::Write => MountFault::Write,
+        SaveFault::Memory => MountFault::Memory,
+    }
 }
 
 impl<D: Disk> Core<D> {
-    ghost use Rattle.f2_core.specs.Events.{IsServed, ComesTo, ComeTo, ComeToFirst, event_of, answer_of};
-    ghost use Rattle.f2_core.specs.Seen.{IsShut, live_where_up};
+    ghost use Rattle.f2_core.specs.Events.{IsServed, IsMade, ComesTo, ComeTo, ComeToFirst, event_of, answer_of};
+    ghost use Rattle.f2_core.specs.Seen.{IsIn, IsOpen, tree_of};
 
-    /// A core whose volume is closed, with an empty history. Where memory is refused the disk comes back.
-    pub fn shut(alloc: Global, disk: D, limits: Limits) -> Result<Core<D>, D>
-        requires nodes { 1 ≤ limits.nodes }
-        requires nids { 3 * limits.nodes + 4 ≤ limits.nids }
-        ensures { MatchResult result (λ core. IsShut disk limits core) (λ back. back ≡ disk) }
+    /// Makes an image of these sizes with the root alone on a disk of any content, and gives a closed core on it, with an
+    /// empty history. Where that fails the disk comes back; a fault of it may leave any part of the image.
+    pub fn made(alloc: Global, disk: D, geometry: Geometry) -> Result<Core<D>, (MountFault, D)>
+        requires blocks { geometry.blocks ≤ (D.meter disk).blocks }
+        ensures made { IfOk result (λ core. IsSome (D.contents disk) → IsMade geometry (D.contents core.disk) core) }
+        ensures told { IfOk result (λ core. IsSome (D.contents disk) → IsSome (D.contents core.disk)) }
+        ensures fresh { IfOk result (λ core. core ≡ record { disk = core.disk; geometry = geometry; volume = None; history = record { entries = []; choices = []; spare = 0 } }) }
+        ensures within { IfOk result (λ core. IsWithin (most_making geometry) (D.meter disk) (D.meter core.disk)) }
+        ensures back { IfErr result (λ back. IsWithin (most_making geometry) (D.meter disk) (D.meter back.1)) }
+        ensures cause { IfErr result (λ back. (back.0 ≡ MountFault.Memory) ⊎ ((back.0 ≡ MountFault.Write) × HasFailed (D.meter disk) (D.meter back.1))) }
     {
-        match bare_tree(alloc) {
-            Some(tree) => Ok(Core {
-                disk,
-                limits,
-                tree,
-                is_open: false,
-                history: Log::new(alloc),
-                alloc,
-            }),
-            None => Err(disk),
+        let mut disk = disk;
+        if let Err(fault) = mkfs(alloc, &mut disk, geometry) {
+            return Err((unsaved(fault), disk));
         }
+        Ok(Core {
+            disk,
+            geometry,
+            volume: None,
+            history: Log::new(alloc),
+            alloc,
+        })
     }
 
-    /// One event, and with a mount its whole checkpoint.
+    /// One event; a sync and a mount make their whole checkpoint.
     pub fn step(&mut self, event: Event) -> Answer
         requires { IsServed event }
-        ensures { ComesTo self.old self.new (event_of event) (answer_of result) }
+        ensures comes { (from : State) → IsSome (D.contents self.old.disk) → IsIn self.old.geometry (D.contents self.old.disk) self.old.volume self.old.history from
+            → ¬ (HasFailed (D.meter self.old.disk) (D.meter self.new.disk))
+            → ComesTo self.old self.new (D.contents self.new.disk) from (event_of event) (answer_of result) }
+        // A disk that tells what it holds tells it afterwards too.
+        ensures told { IsSome (D.contents self.old.disk) → IsSome (D.contents self.new.disk) }
+        // The tree of a closed core is found as long as the versions of checkpoints last.
+        ensures finds { (from : State) → IsSome (D.contents self.old.disk) → IsIn self.old.geometry (D.contents self.old.disk) self.old.volume self.old.history from
+            → length self.old.history.entries < MOST_VERSION → answer_of result ≢ machine.NotMounted machine.BadImage }
+        ensures geometry { self.new.geometry ≡ self.old.geometry }
+        // A fault of the disk is answered only where its count rose.
+        ensures cause { TellsFault (answer_of result) → HasFailed (D.meter self.old.disk) (D.meter self.new.disk) }
+        ensures within { IsWithin (checkpoint_writes self.old.geometry) (D.meter self.old.disk) (D.meter self.new.disk) }
     {
         match event {
             Event::Begin {
                 seat,
                 request: Request::Create { path },
             } => Answer::Begun(Begun::Replied(self.create(seat, path))),
+            Event::Begin {
+                seat,
+                request: Request::Sync,
+            } => Answer::Begun(Begun::Replied(self.sync(seat))),
             Event::Begin { .. } => unreachable!(),
             Event::Mount => self.mount(),
         }
@@ -99,8 +143,12 @@ impl<D: Disk> Core<D> {
     /// were made.
     pub fn run(&mut self, events: Vec<Event>) -> Result<Vec<Answer>, AllocError>
         requires { AllByRecursion IsServed events.items }
-        ensures ok { IfOk result (λ answers. ComeTo self.old events.items answers.items self.new) }
-        ensures err { OnErr result (ComeToFirst self.old events.items self.new) }
+        ensures ok { IfOk result (λ answers. (from : State) → IsSome (D.contents self.old.disk) → IsIn self.old.geometry (D.contents self.old.disk) self.old.volume self.old.history from
+            → ¬ (HasFailed (D.meter self.old.disk) (D.meter self.new.disk)) → ComeTo self.old self.new (D.contents self.new.disk) from events.items answers.items) }
+        ensures err { OnErr result ((from : State) → IsSome (D.contents self.old.disk) → IsIn self.old.geometry (D.contents self.old.disk) self.old.volume self.old.history from
+            → ¬ (HasFailed (D.meter self.old.disk) (D.meter self.new.disk)) → ComeToFirst self.old self.new (D.contents self.new.disk) from events.items) }
+        ensures told { IsSome (D.contents self.old.disk) → IsSome (D.contents self.new.disk) }
+        ensures geometry { self.new.geometry ≡ self.old.geometry }
     {
         let mut answers = Vec::with_capacity(self.alloc, events.len())?;
         for event in events {
@@ -111,9 +159,16 @@ impl<D: Disk> Core<D> {
 
     /// The tree of an open volume.
     pub fn tree(&self) -> Option<&Tree>
-        ensures { option_copied result ≡ live_where_up self.now.state }
+        ensures { option_copied result ≡ tree_of self.now.volume }
     {
-        if self.is_open { Some(&self.tree) } else { None }
+        self.volume.as_ref().map(|volume| &volume.tree)
+    }
+
+    /// The most writes that an event makes.
+    pub fn writes(&self) -> u32
+        ensures { result ≡ checkpoint_writes self.now.geometry }
+    {
+        checkpoint_writes(&self.geometry)
     }
 
     /// The disk.
@@ -126,63 +181,131 @@ impl<D: Disk> Core<D> {
 
     /// A seat makes an empty file.
     fn create(&mut self, seat: u8, path: Path) -> Reply
-        ensures { ComesTo self.old self.new (machine.Begin seat (Create path)) (machine.replied result) }
+        ensures comes { (from : State) → IsIn self.old.geometry (D.contents self.old.disk) self.old.volume self.old.history from
+            → ComesTo self.old self.new (D.contents self.new.disk) from (machine.Begin seat (Create path)) (machine.replied result) }
+        ensures kept { (self.new.geometry ≡ self.old.geometry) × (self.new.disk ≡ self.old.disk) }
+        ensures calm { ¬ (TellsFault (machine.replied result)) }
     {
-        if !self.is_open {
+        let Some(mut volume) = self.volume.take() else {
             return Reply::Closed;
-        }
+        };
+        let reply = self.create_in(&mut volume, seat, path);
+        self.volume = Some(volume);
+        reply
+    }
+
+    /// A seat makes an empty file in a volume that was taken out of the core.
+    fn create_in(&mut self, volume: &mut Volume, seat: u8, path: Path) -> Reply
+        requires { IsOpen self.old.geometry self.old.history volume.old }
+        ensures comes { (from : State) → IsIn self.old.geometry (D.contents self.old.disk) (Some volume.old) self.old.history from
+            → ComesTo (record self.old { volume = Some volume.old }) (record self.new { volume = Some volume.new }) (D.contents self.new.disk) from (machine.Begin seat (Create path)) (machine.replied result) }
+        ensures opened { IsOpen self.new.geometry self.new.history volume.new }
+        ensures kept { (self.new.geometry ≡ self.old.geometry) × (self.new.disk ≡ self.old.disk) }
+        ensures calm { ¬ (TellsFault (machine.replied result)) }
+    {
         if self.history.len() >= MOST_ENTRIES {
             return Reply::Spent;
         }
-        let Ok(added) = add_file(self.alloc, &mut self.tree, self.limits, &path) else {
+        let Ok(added) = add_file(self.alloc, &mut volume.tree, &self.geometry, &path) else {
             return Reply::Memory;
         };
-        match added {
-            Ok(ino) => {
-                let entry = Entry::Did {
-                    seat,
-                    request: Request::Create { path },
-                    outcome: Outcome::Done,
-                };
-                self.history.add(entry, Some(ino));
-                Reply::Done
+        let (reply, choice) = match added {
+            Ok(ino) => (Reply::Done, Some(ino)),
+            Err(refusal) => (refusal, None),
+        };
+        let entry = Entry::Did {
+            seat,
+            request: Request::Create { path },
+            outcome: outcome_of(&reply),
+        };
+        self.history.add(entry, choice);
+        reply
+    }
+
+    /// A seat makes a checkpoint of the whole tree.
+    fn sync(&mut self, seat: u8) -> Reply
+        requires { seat ≢ machine.MOUNT_SEAT }
+        ensures comes { (from : State) → IsSome (D.contents self.old.disk) → IsIn self.old.geometry (D.contents self.old.disk) self.old.volume self.old.history from
+            → ¬ (HasFailed (D.meter self.old.disk) (D.meter self.new.disk))
+            → ComesTo self.old self.new (D.contents self.new.disk) from (machine.Begin seat Sync) (machine.replied result) }
+        ensures told { IsSome (D.contents self.old.disk) → IsSome (D.contents self.new.disk) }
+        ensures geometry { self.new.geometry ≡ self.old.geometry }
+        ensures cause { TellsFault (machine.replied result) → HasFailed (D.meter self.old.disk) (D.meter self.new.disk) }
+        ensures within { IsWithin (checkpoint_writes self.old.geometry) (D.meter self.old.disk) (D.meter self.new.disk) }
+    {
+        let Some(volume) = self.volume.take() else {
+            return Reply::Closed;
+        };
+        if self.history.len() >= MOST_ENTRIES {
+            self.volume = Some(volume);
+            return Reply::Spent;
+        }
+        match save(self.alloc, &mut self.disk, &volume.stored, &volume.tree) {
+            Ok(stored) => {
+                let tree = volume.tree;
+                self.volume = Some(Volume { tree, stored });
+                add_checkpoint(&mut self.history, sync_begun(seat), None, seat);
+                Reply::Synced
             }
-            Err(refusal) => {
-                let entry = Entry::Did {
-                    seat,
-                    request: Request::Create { path },
-                    outcome: outcome_of(&refusal),
-                };
-                self.history.add(entry, None);
-                refusal
+            Err(SaveFault::Write) => {
+                let count = self.disk.faults();
+                add_fault(&mut self.history, sync_begun(seat), None, seat, count);
+                Reply::WriteFault
+            }
+            Err(SaveFault::Memory) => {
+                self.volume = Some(volume);
+                Reply::Memory
             }
         }
     }
 
-    /// Finds the tree of the root alone, and makes the mount's checkpoint.
+    /// Opens the volume: reads its tree from the blocks, and makes the mount's checkpoint.
     fn mount(&mut self) -> Answer
-        ensures { ComesTo self.old self.new machine.Mount (answer_of result) }
+        ensures comes { (from : State) → IsSome (D.contents self.old.disk) → IsIn self.old.geometry (D.contents self.old.disk) self.old.volume self.old.history from
+            → ¬ (HasFailed (D.meter self.old.disk) (D.meter self.new.disk))
+            → ComesTo self.old self.new (D.contents self.new.disk) from machine.Mount (answer_of result) }
+        ensures told { IsSome (D.contents self.old.disk) → IsSome (D.contents self.new.disk) }
+        ensures finds { (from : State) → IsSome (D.contents self.old.disk) → IsIn self.old.geometry (D.contents self.old.disk) self.old.volume self.old.history from
+            → length self.old.history.entries < MOST_VERSION → answer_of result ≢ machine.NotMounted machine.BadImage }
+        ensures geometry { self.new.geometry ≡ self.old.geometry }
+        ensures cause { TellsFault (answer_of result) → HasFailed (D.meter self.old.disk) (D.meter self.new.disk) }
+        ensures within { IsWithin (checkpoint_writes self.old.geometry) (D.meter self.old.disk) (D.meter self.new.disk) }
     {
-        if self.is_open {
+        if self.volume.is_some() {
             return Answer::Mounted;
         }
         if self.history.room(HISTORY_ROOM).is_err() {
             return Answer::Bad(MountFault::Memory);
         }
-        self.history.add(Entry::Mounted { rows: 0 }, Some(0));
-        let begun = Entry::CpBegin {
-            seat: MOUNT_SEAT,
-            plan: Plan::Sync,
+        let Volume { tree, stored } = match find(self.alloc, &mut self.disk, &self.geometry) {
+            Ok(volume) => volume,
+            Err(fault) => {
+                add_unfound(&mut self.history, fault, self.disk.faults());
+                return Answer::Bad(fault);
+            }
         };
-        self.history.add(begun, None);
-        self.history.add(Entry::CpTail { seat: MOUNT_SEAT }, None);
-        self.history.add(Entry::CpDone { seat: MOUNT_SEAT }, None);
-        self.is_open = true;
-        Answer::Found(0)
+        match save(self.alloc, &mut self.disk, &stored, &tree) {
+            Ok(stored) => {
+                let mounted = Entry::Mounted { rows: 0 };
+                add_checkpoint(&mut self.history, mounted, Some(0), MOUNT_SEAT);
+                self.volume = Some(Volume { tree, stored });
+                Answer::Found(0)
+            }
+            Err(SaveFault::Write) => {
+                let count = self.disk.faults();
+                let mounted = Entry::Mounted { rows: 0 };
+                add_fault(&mut self.history, mounted, Some(0), MOUNT_SEAT, count);
+                Answer::Bad(MountFault::Write)
+            }
+            Err(SaveFault::Memory) => Answer::Bad(MountFault::Memory),
+        }
     }
 }
 
 impl<D: Bench> Core<D> {
+    ghost use Rattle.f2_core.specs.Events.{HasCrashed};
+    ghost use Rattle.f2_core.specs.Seen.{IsIn};
+
     /// Takes room for `n` writes of the bench. Where memory is refused it may have taken some; all else stays.
     pub fn ready(&mut self, n: u32) -> Result<(), AllocError>
         ensures room { OnOk result (n ≤ (D.meter self.new.disk).spare) }
@@ -191,5 +314,22 @@ impl<D: Bench> Core<D> {
         ensures kept { self.new ≡ record self.old { disk = self.new.disk } }
     {
         self.disk.ready(n)
+    }
+
+    /// Loses power: the bench crashes with this pick, and the core forgets all that it knew but the history. Where
+    /// memory for the history is refused nothing happens.
+    pub fn crash(&mut self, pick: u64) -> Result<(), AllocError>
+        ensures crashed { OnOk result ((from : State) → IsIn self.old.geometry (D.contents self.old.disk) self.old.volume self.old.history from
+            → HasCrashed self.old self.new (D.contents self.new.disk) from) }
+        ensures told { IsSome (D.contents self.old.disk) → IsSome (D.contents self.new.disk) }
+        ensures calm { OnOk result (IsCalm (D.meter self.old.disk).blocks (D.meter self.old.disk) (D.meter self.new.disk)) }
+        ensures geometry { self.new.geometry ≡ self.old.geometry }
+        ensures err { OnErr result (self.new ≡ self.old) }
+    {
+        self.history.room(1)?;
+        self.disk.crash(pick);
+        self.volume = None;
+        self.history.add(Entry::Crash, None);
+        Ok(())
     }
 }

@@ -2,19 +2,39 @@
 ghost use Rattle.std.specs.Prelude.{IfOk};
 ghost use Rattle.f2_core.specs.Events.{IsServed};
 
-use crate::{Answer, Core, Event};
-use f2_disk::{MemBench, MemDisk};
-use f2_model::{Begun, Limits, Name, Path, Reply, Request};
+use crate::{Answer, Core, Event, making_writes};
+use f2_disk::{Bench, Disk, MemBench};
+use f2_layout::Geometry;
+use f2_model::{Begun, Name, Path, Reply, Request};
 use std::alloc::{AllocError, Global};
 use std::test::Fail;
 
-const LIMITS: Limits = Limits {
-    nodes: 9,
-    data_blocks: 30,
-    nids: 455,
-    size: 3_780_608,
-};
+/// A closed core on a new image of 128 blocks.
+fn made(alloc: Global) -> Result<Core<MemBench>, Fail> {
+    let geometry = Geometry::new(128, 1)?;
+    let mut disk = MemBench::new(alloc)?;
+    disk.start(128)?;
+    disk.ready(making_writes(&geometry))?;
+    if disk.blocks() < geometry.blocks() {
+        return Err("a disk of 128 blocks".into());
+    }
+    match Core::made(alloc, disk, geometry) {
+        Ok(core) => Ok(core),
+        Err(_) => Err("an image".into()),
+    }
+}
 
+/// A core that is mounted, on a new image, with room for the writes of some more events.
+fn mounted(alloc: Global) -> Result<Core<MemBench>, Fail> {
+    let mut core = made(alloc)?;
+    core.ready(500)?;
+    match core.step(Event::Mount) {
+        Answer::Found(0) => Ok(core),
+        _ => Err("a tree".into()),
+    }
+}
+
+/// A seat makes an empty file.
 fn create(alloc: Global, name: &[u8]) -> Result<Event, AllocError>
     ensures { IfOk result IsServed }
 {
@@ -24,36 +44,75 @@ fn create(alloc: Global, name: &[u8]) -> Result<Event, AllocError>
     Ok(Event::Begin { seat: 1, request })
 }
 
+/// A seat makes a checkpoint.
+fn sync() -> Event
+    ensures { IsServed result }
+{
+    Event::Begin {
+        seat: 1,
+        request: Request::Sync,
+    }
+}
+
+/// How many rows calls see.
+fn rows(core: &Core<MemBench>) -> Option<usize> {
+    core.tree().map(|tree| tree.len())
+}
+
 #[test]
-fn files_are_made_in_an_open_volume(rt: HostRuntime) -> Result<(), Fail> {
-    let disk = MemDisk::new(rt.alloc(), 0)?;
-    let Ok(mut core) = Core::shut(rt.alloc(), disk, LIMITS) else {
-        return Err("a core".into());
-    };
-    let closed = core.step(create(rt.alloc(), b"a")?);
-    assert!(rt; matches!(closed, Answer::Begun(Begun::Replied(Reply::Closed))));
-    assert!(rt; matches!(core.step(Event::Mount), Answer::Found(0)));
-    let made = core.step(create(rt.alloc(), b"a")?);
-    assert!(rt; matches!(made, Answer::Begun(Begun::Replied(Reply::Done))));
-    let there = core.step(create(rt.alloc(), b"a")?);
-    assert!(rt; matches!(there, Answer::Begun(Begun::Replied(Reply::Exists))));
-    assert_eq!(rt; core.tree().ok_or("a tree")?.len(), 2);
-    let _disk = core.into_disk();
+fn a_closed_core_says_so(rt: HostRuntime) -> Result<(), Fail> {
+    let mut core = made(rt.alloc())?;
+    let told = core.step(create(rt.alloc(), b"a")?);
+    assert!(rt; matches!(told, Answer::Begun(Begun::Replied(Reply::Closed))));
+    Ok(())
+}
+
+#[test]
+fn a_new_image_has_the_root(rt: HostRuntime) -> Result<(), Fail> {
+    let core = mounted(rt.alloc())?;
+    assert_eq!(rt; rows(&core), Some(1));
+    Ok(())
+}
+
+#[test]
+fn a_file_is_made(rt: HostRuntime) -> Result<(), Fail> {
+    let mut core = mounted(rt.alloc())?;
+    let told = core.step(create(rt.alloc(), b"a")?);
+    assert!(rt; matches!(told, Answer::Begun(Begun::Replied(Reply::Done))));
+    assert_eq!(rt; rows(&core), Some(2));
+    Ok(())
+}
+
+#[test]
+fn a_synced_file_is_there_after_a_crash(rt: HostRuntime) -> Result<(), Fail> {
+    let mut core = mounted(rt.alloc())?;
+    let _made = core.step(create(rt.alloc(), b"a")?);
+    let told = core.step(sync());
+    assert!(rt; matches!(told, Answer::Begun(Begun::Replied(Reply::Synced))));
+    core.crash(0)?;
+    let _found = core.step(Event::Mount);
+    assert_eq!(rt; rows(&core), Some(2));
+    Ok(())
+}
+
+#[test]
+fn a_file_that_is_not_synced_is_gone_after_a_crash(rt: HostRuntime) -> Result<(), Fail> {
+    let mut core = mounted(rt.alloc())?;
+    let _made = core.step(create(rt.alloc(), b"a")?);
+    core.crash(0)?;
+    let _found = core.step(Event::Mount);
+    assert_eq!(rt; rows(&core), Some(1));
     Ok(())
 }
 
 #[test]
 fn events_are_run_in_order(rt: HostRuntime) -> Result<(), Fail> {
-    let bench = MemBench::new(rt.alloc())?;
-    let Ok(mut core) = Core::shut(rt.alloc(), bench, LIMITS) else {
-        return Err("a core".into());
-    };
-    core.ready(1)?;
+    let mut core = mounted(rt.alloc())?;
     let mut events = Vec::new(rt.alloc());
-    events.push(Event::Mount)?;
     events.push(create(rt.alloc(), b"a")?)?;
+    events.push(sync())?;
     let answers = core.run(events)?;
     assert_eq!(rt; answers.len(), 2);
-    assert!(rt; matches!(answers[0], Answer::Found(0)));
+    assert_eq!(rt; core.into_disk().blocks(), 128);
     Ok(())
 }

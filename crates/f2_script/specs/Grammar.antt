@@ -4,7 +4,7 @@ use Rattle.std.specs.List.{onto_first, flat_map}
 use Rattle.f2_model.specs.declared.requests.Request.{Request}
 use Rattle.f2_model.specs.declared.requests.Request.TheVariants.{Create, Write, Fsync, Sync}
 use Rattle.f2_script.specs.declared.script.Line.{Line}
-use Rattle.f2_script.specs.declared.script.Line.TheVariants.{Skipped, Mkfs, Call, Begin, Crash, Fail, Stop, Tree}
+use Rattle.f2_script.specs.declared.script.Line.TheVariants.{Skipped, Mkfs, Call, Begin, Crash, Fail, Stop, Mount, Tree}
 use Rattle.f2_script.specs.declared.script.Grammar.{Grammar}
 use Rattle.f2_script.specs.declared.script.Grammar.TheVariants.{Whole, Replay, Plain}
 use Rattle.f2_script.specs.Words.{AreWords, split_words}
@@ -53,12 +53,15 @@ SaysNothing (b ∷ text) = b ≡ 35
 abbrev pub IsLine : List ℕ → Line → Type 0
 IsLine text line = (SaysNothing text × (line ≡ Skipped)) ⊎ IsSaid (split_words text) line
 
--- the lines that each grammar takes: `Replay` has no more than creates and trees so far; `Plain` plans no
+-- the lines that each grammar takes: `Replay` has no other calls than creates and syncs so far; `Plain` plans no
 -- failures, and its crashes keep either all that was written or as little as they may
 abbrev pub takes : Grammar → Line → Bool
 takes Whole _ = true
 takes Replay (Mkfs blocks nat) = true
 takes Replay (Call seat (Create path)) = true
+takes Replay (Call seat Sync) = true
+takes Replay (Crash pick) = true
+takes Replay Mount = true
 takes Replay Tree = true
 takes Replay _ = false
 takes Plain (Crash pick) = pick == 0 || pick == 18446744073709551615

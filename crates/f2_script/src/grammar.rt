@@ -53,9 +53,11 @@ fn is_taken(grammar: Grammar, line: &Line) -> bool
             line,
             Line::Mkfs { .. }
                 | Line::Call {
-                    request: Request::Create { .. },
+                    request: Request::Create { .. } | Request::Sync,
                     ..
                 }
+                | Line::Crash { .. }
+                | Line::Mount
                 | Line::Tree
         ),
         Grammar::Plain => match line {

@@ -1,5 +1,5 @@
 -- Each status comes where the bytes are due it.
-use Rattle.std.proofs.Common.{◌≡◌, ℕ, suc, ◌+◌, List, [], ◌∷◌, ◌++◌, length, refl, sym, ap, ◌∙◌, subst, append_assoc, arith, inl, inr, Result, Ok, Err, take, length-append, take-append-drop}
+use Rattle.std.proofs.Common.{◌≡◌, ℕ, ◌+◌, List, [], ◌∷◌, ◌++◌, length, refl, sym, ap, ◌∙◌, subst, arith, inl, inr, Result, Ok, Err, take, length-append}
 use Rattle.std.specs.Prelude.{Option, Some}
 use Rattle.std.specs.Io.KnownBytes.{Consumes}
 use Rattle.f2_format.specs.Geometry.{Extent}
@@ -13,9 +13,10 @@ use Rattle.f2_script.specs.Grammar.{IsTooLong, Spells, IsFirstFault, lines_of}
 use Rattle.f2_script.proofs.ScriptLaws.{one_reading, no_fault, one_fault}
 use Rattle.f2_top.specs.declared.status.Status.{Status}
 use Rattle.f2_top.specs.declared.status.Status.TheVariants as status
-use Rattle.f2_top.specs.Plays.{PlaysScript}
-use Rattle.f2_top.specs.Replay.{BreaksLimit, IsReadAs, Prints, Writes, IsUnread, Replays, read, unread, IsReplayed}
-use Rattle.f2_top.specs.Due.{IsTaken, IsFree, IsDue, IsSound, IsBroken, IsFaulty}
+use Rattle.f2_top.specs.Reads.{TakesScript}
+use Rattle.f2_top.specs.Replay.{BreaksLimit, Finishes, said_whole, broken_off}
+use Rattle.f2_top.specs.Due.{IsTaken, IsFree, IsDue}
+use Rattle.f2_top.specs.Runs.{IsPlayed, IsDueLines}
 
 -- two readings of the same bytes, a reading and a fault, and two faults
 same_lines : (bytes : List ℕ) (a b : List Line) → Spells grammar.Replay bytes a → Spells grammar.Replay bytes b → a ≡ b
@@ -26,13 +27,6 @@ not_both bytes lines n spelled first = no_fault grammar.Replay _ (lines_of bytes
 
 same_fault : (bytes : List ℕ) (m n : ℕ) → IsFirstFault grammar.Replay bytes m → IsFirstFault grammar.Replay bytes n → m ≡ n
 same_fault bytes m n a b = a.1 ∙ ap (λ k. k + 1) (one_fault grammar.Replay _ (lines_of bytes) a.0 b.0 a.2 b.2) ∙ sym b.1
-
--- lines that were played break no limit
-played-within : (lines : List Line) (text : List ℕ) (limit : Limit) (value : ℕ) → PlaysScript lines text → ¬ (BreaksLimit lines limit value)
-played-within lines text limit value played broken =
-    let sized : geometry_of broken.extent ≡ Ok broken.extent = (subst (λ l. PlaysScript l text) broken.first played).0 in
-    let other = broken.broken in
-    absurd (cc)
 
 -- the sizes that a first line asks for, and the status of what is said of them
 abbrev blocks_asked : List Line → ℕ
@@ -71,42 +65,42 @@ due-free bytes s free = record {
   never = λ is. absurd (subst IsFree is free);
 }
 
--- the other statuses come of what they print
-due-done : (bytes text : List ℕ) → Prints bytes status.Done text → IsDue bytes status.Done
-due-done bytes text print = record {
+-- the other statuses are due to bytes of which their reason holds
+due-done : (bytes : List ℕ) (lines : List Line) → ¬ (IsTooLong bytes) → Spells grammar.Replay bytes lines → ((limit : Limit) (value : ℕ) → ¬ (BreaksLimit lines limit value)) → IsDue bytes status.Done
+due-done bytes lines fits spelled within = record {
   done = λ _. inl refl;
-  too_long = λ long. absurd (print.fits long);
-  faulty = λ line f. absurd (not_both bytes print.lines line print.spelled f.first);
-  broken = λ limit value b. absurd (played-within print.lines text limit value print.holds (subst (λ l. BreaksLimit l limit value) (same_lines bytes b.lines print.lines b.spelled print.spelled) b.broken));
-  only_done = λ _. record { fits = print.fits; lines = print.lines; spelled = print.spelled; within = λ limit value. played-within print.lines text limit value print.holds };
+  too_long = λ long. absurd (fits long);
+  faulty = λ line f. absurd (not_both bytes lines line spelled f.first);
+  broken = λ limit value b. absurd (within limit value (subst (λ l. BreaksLimit l limit value) (same_lines bytes b.lines lines b.spelled spelled) b.broken));
+  only_done = λ _. record { fits = fits; lines = lines; spelled = spelled; within = within };
   only_too_long = λ is. absurd (cc);
   only_faulty = λ line is. absurd (cc);
   only_broken = λ limit value is. absurd (cc);
   never = λ is. absurd (cc);
 }
 
-due-long : (bytes text : List ℕ) → Prints bytes status.TooLong text → IsDue bytes status.TooLong
-due-long bytes text print = record {
-  done = λ s. absurd (s.fits print.0);
+due-long : (bytes : List ℕ) → IsTooLong bytes → IsDue bytes status.TooLong
+due-long bytes long = record {
+  done = λ s. absurd (s.fits long);
   too_long = λ _. inl refl;
-  faulty = λ line f. absurd (f.fits print.0);
-  broken = λ limit value b. absurd (b.fits print.0);
+  faulty = λ line f. absurd (f.fits long);
+  broken = λ limit value b. absurd (b.fits long);
   only_done = λ is. absurd (cc);
-  only_too_long = λ _. print.0;
+  only_too_long = λ _. long;
   only_faulty = λ line is. absurd (cc);
   only_broken = λ limit value is. absurd (cc);
   never = λ is. absurd (cc);
 }
 
-due-line : (bytes text : List ℕ) (n : ℕ) → Prints bytes (status.Script n) text → IsDue bytes (status.Script n)
-due-line bytes text n print = record {
-  done = λ s. absurd (not_both bytes s.lines n s.spelled print.1);
-  too_long = λ long. absurd (print.0 long);
-  faulty = λ line f. inl (ap status.Script (same_fault bytes n line print.1 f.first));
-  broken = λ limit value b. absurd (not_both bytes b.lines n b.spelled print.1);
+due-line : (bytes : List ℕ) (n : ℕ) → ¬ (IsTooLong bytes) → IsFirstFault grammar.Replay bytes n → IsDue bytes (status.Script n)
+due-line bytes n fits first = record {
+  done = λ s. absurd (not_both bytes s.lines n s.spelled first);
+  too_long = λ long. absurd (fits long);
+  faulty = λ line f. inl (ap status.Script (same_fault bytes n line first f.first));
+  broken = λ limit value b. absurd (not_both bytes b.lines n b.spelled first);
   only_done = λ is. absurd (cc);
   only_too_long = λ is. absurd (cc);
-  only_faulty = λ line is. record { fits = print.0; first = subst (IsFirstFault grammar.Replay bytes) (line_of n line is) print.1 };
+  only_faulty = λ line is. record { fits = fits; first = subst (IsFirstFault grammar.Replay bytes) (line_of n line is) first };
   only_broken = λ limit value is. absurd (cc);
   never = λ is. absurd (cc);
 }
@@ -114,21 +108,19 @@ due-line bytes text n print = record {
     line_of : (m n : ℕ) → status.Script m ≡ status.Script n → m ≡ n
     line_of m n e = cc
 
-due-limit : (bytes text : List ℕ) (l : Limit) (v : ℕ) → Prints bytes (status.Geometry l v) text → IsDue bytes (status.Geometry l v)
-due-limit bytes text l v print =
-    let as_read = print.0 in
-    record {
-      done = λ s. absurd (s.within l v (subst (λ x. BreaksLimit x l v) (same_lines bytes as_read.lines s.lines as_read.spelled s.spelled) as_read.holds));
-      too_long = λ long. absurd (as_read.fits long);
-      faulty = λ line f. absurd (not_both bytes as_read.lines line as_read.spelled f.first);
-      broken = λ limit value b. inl (same_break bytes as_read.lines b.lines l limit v value as_read.spelled b.spelled as_read.holds b.broken);
-      only_done = λ is. absurd (cc);
-      only_too_long = λ is. absurd (cc);
-      only_faulty = λ line is. absurd (cc);
-      only_broken = λ limit value is. let one : l ≡ limit = limit_of l limit v value is in let two : v ≡ value = value_of l limit v value is in
-          record { fits = as_read.fits; lines = as_read.lines; spelled = as_read.spelled; broken = subst (λ x. BreaksLimit as_read.lines x value) one (subst (λ x. BreaksLimit as_read.lines l x) two as_read.holds) };
-      never = λ is. absurd (cc);
-    }
+due-limit : (bytes : List ℕ) (lines : List Line) (l : Limit) (v : ℕ) → ¬ (IsTooLong bytes) → Spells grammar.Replay bytes lines → BreaksLimit lines l v → IsDue bytes (status.Geometry l v)
+due-limit bytes lines l v fits spelled breaks = record {
+  done = λ s. absurd (s.within l v (subst (λ x. BreaksLimit x l v) (same_lines bytes lines s.lines spelled s.spelled) breaks));
+  too_long = λ long. absurd (fits long);
+  faulty = λ line f. absurd (not_both bytes lines line spelled f.first);
+  broken = λ limit value b. inl (same_break bytes lines b.lines l limit v value spelled b.spelled breaks b.broken);
+  only_done = λ is. absurd (cc);
+  only_too_long = λ is. absurd (cc);
+  only_faulty = λ line is. absurd (cc);
+  only_broken = λ limit value is. let one : l ≡ limit = limit_of l limit v value is in let two : v ≡ value = value_of l limit v value is in
+      record { fits = fits; lines = lines; spelled = spelled; broken = subst (λ x. BreaksLimit lines x value) one (subst (λ x. BreaksLimit lines l x) two breaks) };
+  never = λ is. absurd (cc);
+}
   where
     limit_of : (l k : Limit) (v w : ℕ) → status.Geometry l v ≡ status.Geometry k w → l ≡ k
     limit_of l k v w e = cc
@@ -136,25 +128,16 @@ due-limit bytes text l v print =
     value_of : (l k : Limit) (v w : ℕ) → status.Geometry l v ≡ status.Geometry k w → v ≡ w
     value_of l k v w e = cc
 
-due-written : (bytes out : List ℕ) (s : Status) → Writes bytes s out → IsDue bytes s
-due-written bytes out status.SinkFault h = due-free bytes status.SinkFault tt
-due-written bytes out status.SourceFault h = due-free bytes status.SourceFault tt
-due-written bytes out status.Memory h = due-free bytes status.Memory tt
-due-written bytes out status.Usage h = absurd h.printed
-due-written bytes out status.Done h = due-done bytes h.text h.printed
-due-written bytes out status.TooLong h = due-long bytes h.text h.printed
-due-written bytes out (status.Script line) h = due-line bytes h.text line h.printed
-due-written bytes out (status.Geometry limit value) h = due-limit bytes h.text limit value h.printed
-
-unread-free : (s : Status) → IsUnread s → IsFree s
-unread-free status.Done h = absurd h
-unread-free status.Usage h = absurd h
-unread-free status.TooLong h = absurd h
-unread-free (status.Script line) h = absurd h
-unread-free status.SourceFault h = tt
-unread-free status.SinkFault h = absurd h
-unread-free (status.Geometry limit value) h = absurd h
-unread-free status.Memory h = tt
+-- bytes that are lines are due what the lines are
+due-lines : (bytes : List ℕ) (lines : List Line) (s : Status) → ¬ (IsTooLong bytes) → Spells grammar.Replay bytes lines → IsDueLines lines s → IsDue bytes s
+due-lines bytes lines status.Done fits spelled due = due-done bytes lines fits spelled due
+due-lines bytes lines (status.Geometry limit value) fits spelled due = due-limit bytes lines limit value fits spelled due
+due-lines bytes lines status.Memory fits spelled due = due-free bytes status.Memory tt
+due-lines bytes lines status.SinkFault fits spelled due = due-free bytes status.SinkFault tt
+due-lines bytes lines status.Usage fits spelled due = absurd due
+due-lines bytes lines status.TooLong fits spelled due = absurd due
+due-lines bytes lines (status.Script line) fits spelled due = absurd due
+due-lines bytes lines status.SourceFault fits spelled due = absurd due
 
 -- a source that tells what it has gave these bytes alone
 cancel : (xs ys zs : List ℕ) → xs ++ zs ≡ ys ++ zs → xs ≡ ys
@@ -171,9 +154,55 @@ same_bytes old new bytes others taken consumed =
     let told : Consumes (Some (bytes ++ taken.rest)) (Some taken.rest) others = subst (λ o. Consumes o (Some taken.rest) others) taken.before (subst (λ o. Consumes old o others) taken.after consumed) in
     sym (cancel bytes others taken.rest told)
 
-due-replayed : (old new : Option (List ℕ)) (s : Status) (out bytes : List ℕ) → Replays old new s out → IsTaken old new bytes → IsDue bytes s
-due-replayed old new s out bytes (read others taken wrote) is = due-written bytes out s (subst (λ b. Writes b s out) (same_bytes old new bytes others is taken.taken) wrote)
-due-replayed old new s out bytes (unread taken none empty) is = due-free bytes s (unread-free s none)
+-- what bytes that were taken are due, by what a script that was read is
+abbrev pub DueTaken : Option (List ℕ) → Option (List ℕ) → Status → Type 0
+DueTaken old new s = (bytes : List ℕ) → IsTaken old new bytes → IsDue bytes s
 
-pub IsDue-of : (old new then now : Option (List ℕ)) (s : Status) → IsReplayed old new then now s → (bytes : List ℕ) → IsTaken old new bytes → IsDue bytes s
-IsDue-of old new then now s replayed bytes is = due-replayed old new s replayed.out bytes replayed.replayed is
+pub DueTaken-lines : (old new : Option (List ℕ)) (script : List ℕ) (lines : List Line) (s : Status)
+    → TakesScript old new script → ¬ (IsTooLong script) → Spells grammar.Replay script lines → IsDueLines lines s → DueTaken old new s
+DueTaken-lines old new script lines s taken fits spelled due bytes is =
+    subst (λ b. IsDue b s) (same_bytes old new bytes script is taken.taken) (due-lines script lines s fits spelled due)
+
+pub DueTaken-long : (old new : Option (List ℕ)) (script : List ℕ) → TakesScript old new script → IsTooLong script → DueTaken old new status.TooLong
+DueTaken-long old new script taken long bytes is = subst (λ b. IsDue b status.TooLong) (same_bytes old new bytes script is taken.taken) (due-long script long)
+
+pub DueTaken-line : (old new : Option (List ℕ)) (script : List ℕ) (n m : ℕ) → TakesScript old new script → ¬ (IsTooLong script) → IsFirstFault grammar.Replay script n → n ≡ m
+    → DueTaken old new (status.Script m)
+DueTaken-line old new script n m taken fits first same bytes is =
+    subst (λ k. IsDue bytes (status.Script k)) same
+    (subst (λ b. IsDue b (status.Script n)) (same_bytes old new bytes script is taken.taken) (due-line script n fits first))
+
+pub DueTaken-free : (old new : Option (List ℕ)) (s : Status) → IsFree s → DueTaken old new s
+DueTaken-free old new s free bytes is = due-free bytes s free
+
+-- a sink that fails in the last line is a fault
+pub DueTaken-finished : (old new then now : Option (List ℕ)) (s ending : Status) → DueTaken old new s → Finishes then now s ending → DueTaken old new ending
+DueTaken-finished old new then now s ending due (said_whole same line) bytes is = subst (IsDue bytes) (sym same) (due bytes is)
+DueTaken-finished old new then now s ending due (broken_off failed loud some) bytes is = subst (IsDue bytes) (sym failed) (due-free bytes status.SinkFault tt)
+
+-- lines whose sizes break no limit
+unbroken : (lines rest : List Line) (asked got : Extent) → lines ≡ Mkfs asked.blocks asked.nat ∷ rest → Ok got ≡ geometry_of asked → (limit : Limit) (value : ℕ) → ¬ (BreaksLimit lines limit value)
+unbroken lines rest asked got is sizes limit value breaks =
+    let same = sym is ∙ breaks.first in
+    let blocks : asked.blocks ≡ breaks.extent.blocks = ap blocks_asked same in
+    let nat : asked.nat ≡ breaks.extent.nat = ap nat_asked same in
+    let extent : asked ≡ breaks.extent = λ i. record { blocks = blocks i; nat = nat i } in
+    let both = sizes ∙ ap geometry_of extent ∙ breaks.broken in
+    absurd (cc)
+
+-- the status of lines whose sizes break no limit, and of lines without any
+played-due : (lines : List Line) (s : Status) → ((limit : Limit) (value : ℕ) → ¬ (BreaksLimit lines limit value)) → IsPlayed s → IsDueLines lines s
+played-due lines status.Done within played = within
+played-due lines status.Memory within played = tt
+played-due lines status.SinkFault within played = tt
+played-due lines status.Usage within played = absurd played
+played-due lines status.TooLong within played = absurd played
+played-due lines (status.Script line) within played = absurd played
+played-due lines status.SourceFault within played = absurd played
+played-due lines (status.Geometry limit value) within played = absurd played
+
+pub IsDueLines-played : (lines rest : List Line) (asked got : Extent) (s : Status) → lines ≡ Mkfs asked.blocks asked.nat ∷ rest → Ok got ≡ geometry_of asked → IsPlayed s → IsDueLines lines s
+IsDueLines-played lines rest asked got s is sizes played = played-due lines s (unbroken lines rest asked got is sizes) played
+
+pub IsDueLines-none : (lines : List Line) → lines ≡ [] → IsDueLines lines status.Done
+IsDueLines-none lines none limit value breaks = let both = sym none ∙ breaks.first in absurd (cc)

@@ -1,25 +1,18 @@
 -- Lines that are played one after another, and what they print.
-use Rattle.std.proofs.Common.{◌≡◌, ℕ, List, [], ◌∷◌, ◌++◌, refl, sym, ap, ◌∙◌, subst, append_assoc, append-nil, length, take, inl, Result, Ok, Err, IfOk, arith}
-use Rattle.std.specs.Prelude.{Option}
-use Rattle.std.proofs.lemmas.Grind.{flat_map-append}
-use Rattle.std.proofs.Math.Seq.{take-append_seam}
-use Rattle.f2_model.specs.declared.bounds.Limits.{Limits}
-use Rattle.f2_model.specs.State.{State}
-use Rattle.f2_script.specs.declared.script.Line.{Line}
-use Rattle.std.specs.Prelude.{◌≢◌}
-use Rattle.f2_model.specs.declared.requests.Request.{Request}
-use Rattle.f2_model.specs.declared.replies.Reply.{Reply}
-use Rattle.f2_model.specs.declared.replies.Reply.TheVariants as reply
-use Rattle.f2_model.specs.Step.{Begin, replied}
-use Rattle.f2_core.specs.Seen.{Seen, live_where_up}
-use Rattle.f2_core.specs.Events.{ComesTo}
-use Rattle.f2_script.specs.declared.script.Line.TheVariants.{Call, Tree}
-use Rattle.f2_script.specs.Replies.{reply_spelling}
-use Rattle.f2_top.specs.Plays.{tree_shown, Part, PlaysLine, PlaysLines, text_of}
-use Rattle.f2_top.specs.Runs.{PlaysAs, PlaysTo, PlaysFrom, SomePrint, SomeCut}
+use Rattle.std.proofs.Common.{◌≡◌, ℕ, List, [], ◌∷◌, ◌++◌, refl, sym, ap, ◌∙◌, subst, append_assoc, append-nil, length, take, Result, Ok, Err, IfOk, is_err, false, arith}
+use Rattle.std.specs.Prelude.{Option, None, OnOk}
 use Rattle.std.specs.List.{AllByRecursion}
 use Rattle.std.specs.Io.KnownBytes.{Appends}
-use Rattle.std.proofs.KnownBytes.{Appends-trans}
+use Rattle.std.proofs.KnownBytes.{Appends-nil, Appends-trans}
+use Rattle.std.proofs.lemmas.Grind.{flat_map-append}
+use Rattle.std.proofs.Math.Seq.{take-append_seam}
+use Rattle.f2_disk.specs.Contents.{Contents}
+use Rattle.f2_model.specs.declared.bounds.Limits.{Limits}
+use Rattle.f2_model.specs.State.{State}
+use Rattle.f2_core.specs.Seen.{Seen, limits_of}
+use Rattle.f2_script.specs.declared.script.Line.{Line}
+use Rattle.f2_top.specs.Plays.{Part, PlaysLine, PlaysLines, IsSafeWhereTold, text_of}
+use Rattle.f2_top.specs.Runs.{IsAt, PlaysAs, PlaysOn, PlaysTo, PlaysFrom, SomePrint, SomeCut}
 use Rattle.f2_top.specs.Streams.{IsCutAfter, PutsSome}
 
 -- lines, and then one line more
@@ -65,44 +58,27 @@ Progress-step limits here from mid to all before left line text more next same p
 }
 
 -- what was played so far are some first lines
-pub Progress-some : (limits : Limits) (from now : State) (all left : List Line) (text : List ℕ) → Progress limits from all left text now → SomePrint (PlaysFrom limits from) all text
+pub Progress-some : (limits : Limits) (from now : State) (all left : List Line) (text : List ℕ) → Progress limits from all left text now → SomePrint (PlaysFrom None limits from) all text
 Progress-some limits from now all left text progress = record {
   count = length progress.done;
-  holds = subst (λ ls. PlaysFrom limits from ls text) (sym (ap (take (length progress.done)) progress.whole ∙ take-append_seam progress.done left)) (now, progress.played);
+  holds = subst (λ ls. PlaysFrom None limits from ls text) (sym (ap (take (length progress.done)) progress.whole ∙ take-append_seam progress.done left))
+      record { to = now; played = progress.played; safe = tt };
 }
 
 -- no line is left
-pub Progress-end : (limits : Limits) (from now : State) (all left : List Line) (text : List ℕ) → left ≡ [] → Progress limits from all left text now → PlaysFrom limits from all text
-Progress-end limits from now all left text none progress =
-    subst (λ ls. PlaysFrom limits from ls text) (sym (progress.whole ∙ ap (λ ls. progress.done ++ ls) none ∙ append-nil progress.done)) (now, progress.played)
+pub Progress-end : (told : Option Contents) (limits : Limits) (from now : State) (all left : List Line) (text : List ℕ)
+    → left ≡ [] → IsSafeWhereTold told now → Progress limits from all left text now → PlaysFrom told limits from all text
+Progress-end told limits from now all left text none safe progress =
+    subst (λ ls. PlaysFrom told limits from ls text) (sym (progress.whole ∙ ap (λ ls. progress.done ++ ls) none ∙ append-nil progress.done))
+    record { to = now; played = progress.played; safe = safe }
 
 -- the sink failed within what the last line printed
 pub Progress-cut : (limits : Limits) (from now : State) (all left : List Line) (text more gone : List ℕ)
-    → Progress limits from all left (text ++ more) now → IsCutAfter gone more → SomeCut (PlaysFrom limits from) all (text ++ gone)
+    → Progress limits from all left (text ++ more) now → IsCutAfter gone more → SomeCut (PlaysFrom None limits from) all (text ++ gone)
 Progress-cut limits from now all left text more gone progress cut = record {
   text = text ++ more;
   first = Progress-some limits from now all left (text ++ more) progress;
   cut = record { rest = cut.rest; whole = ap (λ t. text ++ t) cut.whole ∙ sym (append_assoc text gone cut.rest) };
-}
-
--- a call of a core that was replied to, and the line that was printed for it
-pub PlaysAs-call : {D : Type 0} (old new : Seen D) (seat : ℕ) (request : Request) (told : Reply) (text : List ℕ)
-    → ComesTo old new (Begin seat request) (replied told) → told ≢ reply.Memory → text ≡ reply_spelling told ++ 10 ∷ []
-    → PlaysAs old.limits old.state (Call seat request) text new.state
-PlaysAs-call old new seat request told text comes some printed = record {
-  part = record { text = text; events = comes.events; after = new.state };
-  line_played = record { told = told; not_memory = some; happened = comes.happened; call = inl comes.told; text = printed };
-  printed = refl;
-  after = refl;
-}
-
--- what was printed of the tree
-pub PlaysAs-tree : {D : Type 0} (core : Seen D) (text : List ℕ) → text ≡ tree_shown (live_where_up core.state) → PlaysAs core.limits core.state Tree text core.state
-PlaysAs-tree core text printed = record {
-  part = record { text = text; events = []; after = core.state };
-  line_played = record { still = refl; same = refl; text = printed };
-  printed = refl;
-  after = refl;
 }
 
 -- what holds of a value that a call gave, from what else does
@@ -110,15 +86,76 @@ pub IfOk-map : {T E : Type 0} (P Q : T → Type 0) (r : Result T E) → ((x : T)
 IfOk-map P Q (Ok x) f h = f x h
 IfOk-map P Q (Err e) f h = tt
 
--- the line that was run last was printed in part
-pub Progress-fails : (limits here : Limits) (from mid to : State) (all before left : List Line) (line : Line) (text more : List ℕ) (old now new : Option (List ℕ))
-    → before ≡ line ∷ left → here ≡ limits → Appends old now text → Progress limits from all before text mid → PlaysAs here mid line more to → PutsSome now new more
-    → (out : List ℕ) × Appends old new out × SomeCut (PlaysFrom limits from) all out
-Progress-fails limits here from mid to all before left line text more old now new next same written progress last some = (
-  text ++ some.gone,
-  Appends-trans old now new text some.gone written some.written,
-  Progress-cut limits from to all left text more some.gone (Progress-step limits here from mid to all before left line text more next same progress last) some.cut,
-)
+-- what holds where a call didn't fail, since it didn't
+pub OnOk-of : {T E : Type 0} (P : Type 0) (r : Result T E) → is_err r ≡ false → OnOk r P → P
+OnOk-of P (Ok x) e h = h
+OnOk-of P (Err x) e h = absurd (cc)
+
+-- how far a run of lines on a core has come: what it printed, and the state that the core is in
+pub record Reaches {D : Type 0} (limits : Limits) (from : State) (all left : List Line) (then now : Option (List ℕ)) (told : Option Contents) (core : Seen D) : Type 0 where
+  pub text : List ℕ
+  pub state : State
+  pub written : Appends then now text
+  pub progress : Progress limits from all left text state
+  pub at : IsAt told core state
+
+-- the same from each state that the first core was in
+abbrev pub Runs : {D : Type 0} → Option Contents → Seen D → List Line → List Line → Option (List ℕ) → Option (List ℕ) → Option Contents → Seen D → Type 0
+Runs first core all left then now told new = (from : State) → IsAt first core from → Reaches (limits_of core.geometry) from all left then now told new
+
+pub Runs-start : {D : Type 0} (told : Option Contents) (core : Seen D) (all : List Line) (now : Option (List ℕ)) → Runs told core all all now now told core
+Runs-start told core all now from at = record {
+  text = [];
+  state = from;
+  written = Appends-nil now;
+  progress = Progress-start (limits_of core.geometry) from all;
+  at = at;
+}
+
+-- one line more was played, and its text went out
+pub Runs-step : {D : Type 0} (first told more_told : Option Contents) (core old new : Seen D) (all before left : List Line) (line : Line) (more : List ℕ) (then now later : Option (List ℕ))
+    → before ≡ line ∷ left → old.geometry ≡ core.geometry → PlaysOn told more_told old new line more → Appends now later more
+    → Runs first core all before then now told old → Runs first core all left then later more_told new
+Runs-step first told more_told core old new all before left line more then now later next same plays written runs from at =
+    let so_far = runs from at in
+    let played = plays so_far.state so_far.at in
+    record {
+      text = so_far.text ++ more;
+      state = played.0;
+      written = Appends-trans then now later so_far.text more so_far.written written;
+      progress = Progress-step (limits_of core.geometry) (limits_of old.geometry) from so_far.state played.0 all before left line so_far.text more next (ap limits_of same) so_far.progress played.1;
+      at = played.2;
+    }
+
+-- what went out of lines: memory was refused, the sink failed, or none is left
+pub Runs-some : {D : Type 0} (first told : Option Contents) (core new : Seen D) (all left : List Line) (then now : Option (List ℕ))
+    → Runs first core all left then now told new → (from : State) → IsAt first core from
+    → (out : List ℕ) × Appends then now out × SomePrint (PlaysFrom None (limits_of core.geometry) from) all out
+Runs-some first told core new all left then now runs from at =
+    let so_far = runs from at in
+    (so_far.text, so_far.written, Progress-some (limits_of core.geometry) from so_far.state all left so_far.text so_far.progress)
+
+pub Runs-end : {D : Type 0} (first told : Option Contents) (core new : Seen D) (all left : List Line) (then now : Option (List ℕ))
+    → left ≡ [] → Runs first core all left then now told new → (from : State) → IsAt first core from
+    → (out : List ℕ) × Appends then now out × PlaysFrom told (limits_of core.geometry) from all out
+Runs-end first told core new all left then now none runs from at =
+    let so_far = runs from at in
+    (so_far.text, so_far.written, Progress-end told (limits_of core.geometry) from so_far.state all left so_far.text none so_far.at.safe so_far.progress)
+
+pub Runs-fails : {D : Type 0} (first told more_told : Option Contents) (core old new : Seen D) (all before left : List Line) (line : Line) (more : List ℕ) (then now later : Option (List ℕ))
+    → before ≡ line ∷ left → old.geometry ≡ core.geometry → PlaysOn told more_told old new line more → PutsSome now later more
+    → Runs first core all before then now told old → (from : State) → IsAt first core from
+    → (out : List ℕ) × Appends then later out × SomeCut (PlaysFrom None (limits_of core.geometry) from) all out
+Runs-fails first told more_told core old new all before left line more then now later next same plays some runs from at =
+    let so_far = runs from at in
+    let played = plays so_far.state so_far.at in
+    let limits = limits_of core.geometry in (
+      so_far.text ++ some.gone,
+      Appends-trans then now later so_far.text some.gone so_far.written some.written,
+      Progress-cut limits from played.0 all left so_far.text more some.gone
+          (Progress-step limits (limits_of old.geometry) from so_far.state played.0 all before left line so_far.text more next (ap limits_of same) so_far.progress played.1)
+          some.cut,
+    )
 
 pub All-tail : {X : Type 0} (P : X → Type 0) (xs ys : List X) (x : X) → xs ≡ x ∷ ys → AllByRecursion P xs → AllByRecursion P ys
 All-tail P xs ys x e all = let h : AllByRecursion P (x ∷ ys) = subst (AllByRecursion P) e all in h.1

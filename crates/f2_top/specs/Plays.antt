@@ -1,57 +1,28 @@
 -- What the lines of a script print, and the events that they make.
-use Rattle.std.specs.Prelude.{◌≡◌, ◌≢◌, ◌⊎◌, ℕ, List, [], ◌∷◌, ◌++◌, codes, decimal, Option, Some, None, Ok}
-use Rattle.std.specs.List.{AllByRecursion, flat_map}
-use Rattle.f2_format.specs.Geometry.{Extent, node_third, data_third, nid_limit}
+use Rattle.std.specs.Prelude.{◌≡◌, ◌≢◌, ℕ, List, [], ◌∷◌, ◌++◌, codes, decimal, IfSome, Option, Some, None, Ok}
+use Rattle.std.specs.List.{flat_map}
+use Rattle.f2_format.specs.Geometry.{Extent, node_third, data_third}
 use Rattle.f2_layout.specs.Refusal.{geometry_of}
 use Rattle.f2_model.specs.declared.bounds.Limits.{Limits}
 use Rattle.f2_model.specs.declared.requests.Request.{Request}
 use Rattle.f2_model.specs.declared.replies.Reply.{Reply}
 use Rattle.f2_model.specs.declared.replies.Reply.TheVariants as reply
-use Rattle.f2_model.specs.declared.replies.Begun.TheVariants.{Going}
-use Rattle.f2_model.specs.declared.replies.Plan.{Plan}
-use Rattle.f2_model.specs.declared.replies.Step.TheVariants as step
 use Rattle.f2_model.specs.Tree.{Rows}
 use Rattle.f2_model.specs.State.{State, initial}
-use Rattle.f2_model.specs.Step.{Begin, Go, Mount, Began, Stepped, Found, replied}
-use Rattle.f2_model.specs.Run.{Happening}
-use Rattle.f2_core.specs.Room.{HappenedWithRoom}
-use Rattle.f2_core.specs.Seen.{bare_tree, live_where_up}
-use Rattle.f2_core.specs.Events.{IsEvent}
+use Rattle.f2_model.specs.Step as machine
+use Rattle.f2_model.specs.Step.{Mount, AlreadyMounted, Crashed}
+use Rattle.f2_model.specs.Run.{Happening, Happened}
+use Rattle.f2_disk.specs.Contents.{Contents}
+use Rattle.f2_image.specs.Meanings.{IsSafe}
+use Rattle.f2_laid.specs.Laid.{root_alone}
+use Rattle.f2_core.specs.Seen.{limits_of, live_where_up}
+use Rattle.f2_core.specs.Events.{IsCall, IsMount, IsShort}
 use Rattle.f2_script.specs.declared.script.Line.{Line}
-use Rattle.f2_script.specs.declared.script.Line.TheVariants.{Mkfs, Call, Tree}
+use Rattle.f2_script.specs.declared.script.Line.TheVariants.{Mkfs, Call, Crash, Tree}
+use Rattle.f2_script.specs.declared.script.Line.TheVariants as kind
 use Rattle.f2_script.specs.Replies.{reply_spelling}
+use Rattle.f2_script.specs.Steps.{found_spelling, mounted_spelling}
 use Rattle.f2_script.specs.Trees.{tree_spelling}
-
--- the bytes of a file that a volume takes
-abbrev pub FILE_SIZE : ℕ
-FILE_SIZE = 3780608
-
--- what an image of these sizes grants
-abbrev pub limits_of : Extent → Limits
-limits_of extent = record { nodes = node_third extent; data_blocks = data_third extent; nids = nid_limit extent; size = FILE_SIZE }
-
--- the events of a call in flight: its seat goes on, and the last event alone tells the reply
-pub record GoesOn (seat : ℕ) (told : Reply) (events : List Happening) : Type 0 where
-  pub before : List Happening
-  pub last : Happening
-  pub whole : events ≡ before ++ last ∷ []
-  pub own : AllByRecursion (λ one. one.event ≡ Go seat) events
-  pub untold : AllByRecursion (λ one. (early : Reply) → one.turn.answer ≢ Stepped (step.Replied early)) before
-  pub reply : last.turn.answer ≡ Stepped (step.Replied told)
-
--- a call that goes on after its beginning
-pub record IsLongCall (seat : ℕ) (request : Request) (told : Reply) (events : List Happening) : Type 0 where
-  pub first : Happening
-  pub rest : List Happening
-  pub whole : events ≡ first ∷ rest
-  pub plan : Plan
-  pub begun : first.event ≡ Begin seat request
-  pub going : first.turn.answer ≡ Began (Going plan)
-  pub goes_on : GoesOn seat told rest
-
--- the events of a call from its beginning to its reply
-abbrev pub IsCall : ℕ → Request → Reply → List Happening → Type 0
-IsCall seat request told events = IsEvent (Begin seat request) (replied told) events ⊎ IsLongCall seat request told events
 
 -- what one line came to: what it printed, the events that it made, and the state after them
 pub record Part : Type 0 where
@@ -68,7 +39,7 @@ tree_shown (Some tree) = tree_spelling tree
 pub record PlaysCall (limits : Limits) (state : State) (seat : ℕ) (request : Request) (part : Part) : Type 0 where
   pub told : Reply
   pub not_memory : told ≢ reply.Memory
-  pub happened : HappenedWithRoom limits state part.events part.after
+  pub happened : Happened limits state part.events part.after
   pub call : IsCall seat request told part.events
   pub text : part.text ≡ reply_spelling told ++ 10 ∷ []
 
@@ -78,10 +49,23 @@ pub record PlaysTree (state : State) (part : Part) : Type 0 where
   pub same : part.after ≡ state
   pub text : part.text ≡ tree_shown (live_where_up state)
 
+-- the volume was mounted, or it was open already, and so was printed
+pub data PlaysMount (limits : Limits) (state : State) (part : Part) : Type 0 where
+  found : (rows : ℕ) → Happened limits state part.events part.after → IsMount rows part.events → part.text ≡ found_spelling rows ++ 10 ∷ [] → PlaysMount limits state part
+  already : Happened limits state part.events part.after → IsShort Mount AlreadyMounted part.events → part.text ≡ mounted_spelling ++ 10 ∷ [] → PlaysMount limits state part
+
+-- power was lost
+pub record PlaysCrash (limits : Limits) (state : State) (part : Part) : Type 0 where
+  pub happened : Happened limits state part.events part.after
+  pub once : IsShort machine.Crash Crashed part.events
+  pub text : part.text ≡ reply_spelling reply.Done ++ 10 ∷ []
+
 -- what one line comes to from a state; `mkfs` begins a script, and stands nowhere else, and no other line
 -- is played so far
 abbrev pub PlaysLine : Limits → State → Line → Part → Type 0
 PlaysLine limits state (Call seat request) part = PlaysCall limits state seat request part
+PlaysLine limits state (Crash pick) part = PlaysCrash limits state part
+PlaysLine limits state kind.Mount part = PlaysMount limits state part
 PlaysLine limits state Tree part = PlaysTree state part
 PlaysLine limits state _ part = ⊥
 
@@ -104,20 +88,24 @@ abbrev pub mkfs_text : Extent → List ℕ
 mkfs_text extent = codes "ok mkfs " ++ decimal (node_third extent) ++ 32 ∷ decimal (data_third extent) ++ 10 ∷ []
 
 -- a volume of the root alone was mounted on an image of these sizes, and then these lines were played
-pub record PlaysImage (extent : Extent) (lines : List Line) (text : List ℕ) : Type 0 where
+pub record PlaysImage (extent : Extent) (lines : List Line) (text : List ℕ) (after : State) : Type 0 where
   pub mounted : List Happening
   pub start : State
   pub parts : List Part
-  pub after : State
-  pub found : IsEvent Mount (Found 0) mounted
-  pub happened : HappenedWithRoom (limits_of extent) (initial bare_tree []) mounted start
+  pub found : IsMount 0 mounted
+  pub happened : Happened (limits_of extent) (initial root_alone []) mounted start
   pub played : PlaysLines (limits_of extent) start lines parts after
   pub printed : text ≡ mkfs_text extent ++ text_of parts
 
--- what the lines of a script print; an empty script prints nothing, and every other begins with `mkfs`
-abbrev pub PlaysScript : List Line → List ℕ → Type 0
-PlaysScript [] text = text ≡ []
-PlaysScript (Mkfs blocks nat ∷ lines) text =
+-- whatever a crash may leave of the disk stands for what may remain of a state
+abbrev pub IsSafeWhereTold : Option Contents → State → Type 0
+IsSafeWhereTold told state = IfSome told (λ lists. IsSafe lists state)
+
+-- what the lines of a script print, and what they leave on a disk where it is told; an empty script prints nothing, and
+-- every other begins with `mkfs`
+abbrev pub PlaysScript : Option Contents → List Line → List ℕ → Type 0
+PlaysScript told [] text = text ≡ []
+PlaysScript told (Mkfs blocks nat ∷ lines) text =
     let extent : Extent = record { blocks = blocks; nat = nat } in
-    (geometry_of extent ≡ Ok extent) × PlaysImage extent lines text
-PlaysScript (_ ∷ lines) text = ⊥
+    (geometry_of extent ≡ Ok extent) × ((after : State) × PlaysImage extent lines text after × IsSafeWhereTold told after)
+PlaysScript told (_ ∷ lines) text = ⊥

@@ -1,20 +1,24 @@
 -- What is written while the lines of a script are run, by the status that the run comes to.
-use Rattle.std.specs.Prelude.{◌≡◌, ℕ, List, [], ◌∷◌, take, Option}
+use Rattle.std.specs.Prelude.{◌≡◌, ◌≢◌, ℕ, false, List, [], ◌∷◌, take, Option, None, IsSome}
 use Rattle.std.specs.List.{AllByRecursion}
 use Rattle.f2_format.specs.Geometry.{Extent}
+use Rattle.f2_disk.specs.Contents.{Contents}
+use Rattle.f2_disk.specs.Meter.{Meter}
+use Rattle.f2_layout.specs.declared.geometry.Limit.{Limit}
 use Rattle.f2_model.specs.declared.bounds.Limits.{Limits}
-use Rattle.f2_model.specs.declared.requests.Request.TheVariants.{Create}
+use Rattle.f2_model.specs.declared.requests.Request.TheVariants.{Create, Sync}
 use Rattle.f2_model.specs.State.{State, initial}
-use Rattle.f2_model.specs.Step.{Mount, Found}
-use Rattle.f2_model.specs.Run.{Happening}
-use Rattle.f2_core.specs.Room.{HappenedWithRoom}
-use Rattle.f2_core.specs.Events.{IsEvent}
-use Rattle.f2_core.specs.Seen.{Seen, bare_tree}
+use Rattle.f2_model.specs.Run.{Happening, Happened}
+use Rattle.f2_model.specs.Step.{Event, Answer, MOUNT_SEAT}
+use Rattle.f2_laid.specs.Laid.{root_alone}
+use Rattle.f2_core.specs.Events.{ComesTo, IsMount}
+use Rattle.f2_core.specs.Seen.{Seen, IsIn, limits_of}
 use Rattle.f2_script.specs.declared.script.Line.{Line}
-use Rattle.f2_script.specs.declared.script.Line.TheVariants.{Mkfs, Call, Tree}
+use Rattle.f2_script.specs.declared.script.Line.TheVariants.{Mkfs, Call, Crash, Tree}
+use Rattle.f2_script.specs.declared.script.Line.TheVariants as kind
 use Rattle.f2_top.specs.declared.status.Status.{Status}
 use Rattle.f2_top.specs.declared.status.Status.TheVariants.{Done, Usage, TooLong, Script, SourceFault, SinkFault, Geometry, Memory}
-use Rattle.f2_top.specs.Plays.{Part, PlaysLine, PlaysLines, PlaysScript, limits_of, text_of}
+use Rattle.f2_top.specs.Plays.{Part, PlaysLine, PlaysLines, PlaysScript, IsSafeWhereTold, text_of}
 use Rattle.f2_top.specs.Reads.{TakesScript, TakesSome}
 use Rattle.f2_top.specs.Replay.{BreaksLimit, Prints, IsCutOff, IsUnread}
 use Rattle.f2_top.specs.Streams.{IsCutAfter}
@@ -22,6 +26,9 @@ use Rattle.f2_top.specs.Streams.{IsCutAfter}
 -- the lines that follow a `mkfs` line so far
 abbrev pub IsPlayable : Line → Type 0
 IsPlayable (Call seat (Create path)) = Unit {0}
+IsPlayable (Call seat Sync) = seat ≢ MOUNT_SEAT
+IsPlayable (Crash pick) = Unit {0}
+IsPlayable kind.Mount = Unit {0}
 IsPlayable Tree = Unit {0}
 IsPlayable _ = ⊥
 
@@ -44,16 +51,46 @@ pub record PlaysTo (limits : Limits) (from : State) (lines : List Line) (text : 
   pub played : PlaysLines limits from lines parts to
   pub printed : text ≡ text_of parts
 
--- lines print a text from a state on
-abbrev pub PlaysFrom : Limits → State → List Line → List ℕ → Type 0
-PlaysFrom limits from lines text = (to : State) × PlaysTo limits from lines text to
+-- lines print a text from a state on, and what they leave on a disk is safe where it is told
+pub record PlaysFrom (told : Option Contents) (limits : Limits) (from : State) (lines : List Line) (text : List ℕ) : Type 0 where
+  pub to : State
+  pub played : PlaysTo limits from lines text to
+  pub safe : IsSafeWhereTold told to
+
+-- a bench on which nothing is planned, so that it meets no fault as long as it has room
+pub record IsCalmMeter (meter : Meter) : Type 0 where
+  pub none_left : meter.left ≡ 0
+  pub not_stopped : meter.stopped ≡ false
+
+-- nothing is planned on a bench, and its count of faults is as before
+pub record StaysCalm (old new : Meter) : Type 0 where
+  pub calm : IsCalmMeter new
+  pub same_faults : new.faults ≡ old.faults
+
+-- from each state that a core was in, on a disk that tells what it holds, an event came to what it stands for; the disk
+-- tells it afterwards too
+pub record Comes {D : Type 0} (before now : Option Contents) (old new : Seen D) (event : Event) (answered : Answer) : Type 0 where
+  pub from_each : (from : State) → IsSome before → IsIn old.geometry before old.volume old.history from → ComesTo old new now from event answered
+  pub tells : IsSome before → IsSome now
+
+-- a core is in a state, and its disk tells what it holds, which is safe
+pub record IsAt {D : Type 0} (told : Option Contents) (core : Seen D) (state : State) : Type 0 where
+  pub tells : IsSome told
+  pub in_state : IsIn core.geometry told core.volume core.history state
+  pub safe : IsSafeWhereTold told state
+
+-- from each state that a core was in, it printed a text for a line, and is in a state after it
+abbrev pub PlaysOn : {D : Type 0} → Option Contents → Option Contents → Seen D → Seen D → Line → List ℕ → Type 0
+PlaysOn then now old new line text = (from : State) → IsAt then old from → (to : State) × PlaysAs (limits_of old.geometry) from line text to × IsAt now new to
 
 -- a core on which a volume of the root alone was mounted
-pub record IsMounted {D : Type 0} (extent : Extent) (core : Seen D) : Type 0 where
+pub record IsMounted {D : Type 0} (extent : Extent) (told : Option Contents) (core : Seen D) : Type 0 where
   pub mounted : List Happening
-  pub found : IsEvent Mount (Found 0) mounted
-  pub happened : HappenedWithRoom (limits_of extent) (initial bare_tree []) mounted core.state
-  pub limits : core.limits ≡ limits_of extent
+  pub start : State
+  pub found : IsMount 0 mounted
+  pub happened : Happened (limits_of extent) (initial root_alone []) mounted start
+  pub sizes : core.geometry ≡ extent
+  pub at : IsAt told core start
 
 -- some first lines print this, where P says what lines print
 pub record SomePrint (P : List Line → List ℕ → Type 0) (lines : List Line) (text : List ℕ) : Type 0 where
@@ -66,28 +103,41 @@ pub record SomeCut (P : List Line → List ℕ → Type 0) (lines : List Line) (
   pub first : SomePrint P lines text
   pub cut : IsCutAfter out text
 
--- what went out of lines, where P says what lines print
-abbrev pub Ends : (List Line → List ℕ → Type 0) → List Line → Status → List ℕ → Type 0
-Ends P lines Done out = P lines out
-Ends P lines Memory out = SomePrint P lines out
-Ends P lines SinkFault out = SomeCut P lines out
-Ends P lines Usage out = ⊥
-Ends P lines TooLong out = ⊥
-Ends P lines (Script line) out = ⊥
-Ends P lines SourceFault out = ⊥
-Ends P lines (Geometry limit value) out = ⊥
+-- what went out of lines, where P says what lines print when they are told of no disk, and of one
+abbrev pub Ends : (Option Contents → List Line → List ℕ → Type 0) → Option Contents → List Line → Status → List ℕ → Type 0
+Ends P told lines Done out = P told lines out
+Ends P told lines Memory out = SomePrint (P None) lines out
+Ends P told lines SinkFault out = SomeCut (P None) lines out
+Ends P told lines Usage out = ⊥
+Ends P told lines TooLong out = ⊥
+Ends P told lines (Script line) out = ⊥
+Ends P told lines SourceFault out = ⊥
+Ends P told lines (Geometry limit value) out = ⊥
 
 -- what went out of a script, whose sizes may break a limit
-abbrev pub EndsScript : List Line → Status → List ℕ → Type 0
-EndsScript lines (Geometry limit value) out = BreaksLimit lines limit value × (out ≡ [])
-EndsScript lines status out = Ends PlaysScript lines status out
+abbrev pub EndsScript : Option Contents → List Line → Status → List ℕ → Type 0
+EndsScript told lines (Geometry limit value) out = BreaksLimit lines limit value × (out ≡ [])
+EndsScript told lines status out = Ends PlaysScript told lines status out
+
+-- the statuses that the lines after a `mkfs` line end with
+abbrev pub IsPlayed : Status → Type 0
+IsPlayed Done = Unit {0}
+IsPlayed Memory = Unit {0}
+IsPlayed SinkFault = Unit {0}
+IsPlayed status = ⊥
+
+-- the status that lines end with, by the limits that they keep or break
+abbrev pub IsDueLines : List Line → Status → Type 0
+IsDueLines lines Done = (limit : Limit) (value : ℕ) → ¬ (BreaksLimit lines limit value)
+IsDueLines lines (Geometry limit value) = BreaksLimit lines limit value
+IsDueLines lines status = IsPlayed status
 
 -- what went out before the last line of a status
-abbrev pub WritesFirst : List ℕ → Status → List ℕ → Type 0
-WritesFirst bytes SinkFault out = IsCutOff bytes out
-WritesFirst bytes status out = Prints bytes status out
+abbrev pub WritesFirst : Option Contents → List ℕ → Status → List ℕ → Type 0
+WritesFirst told bytes SinkFault out = IsCutOff bytes out
+WritesFirst told bytes status out = Prints told bytes status out
 
 -- the same, where the script may not have been read
-pub data Ran (old new : Option (List ℕ)) (status : Status) (out : List ℕ) : Type 0 where
-  read : (bytes : List ℕ) → TakesScript old new bytes → WritesFirst bytes status out → Ran old new status out
-  unread : TakesSome old new → IsUnread status → out ≡ [] → Ran old new status out
+pub data Ran (told : Option Contents) (old new : Option (List ℕ)) (status : Status) (out : List ℕ) : Type 0 where
+  read : (bytes : List ℕ) → TakesScript old new bytes → WritesFirst told bytes status out → Ran told old new status out
+  unread : TakesSome old new → IsUnread status → out ≡ [] → Ran told old new status out

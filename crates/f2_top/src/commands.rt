@@ -4,7 +4,7 @@ ghost use Rattle.f2_disk.specs.Faults.{Rose};
 ghost use Rattle.f2_top.specs.Due.{IsTaken, IsDue};
 ghost use Rattle.f2_top.specs.Endings.{IsSilent};
 ghost use Rattle.f2_top.specs.Words.{IsReplay};
-ghost use Rattle.f2_top.specs.Replay.{Finishes, IsReplayed, IsRefused};
+ghost use Rattle.f2_top.specs.Replay.{CountsFaults, Finishes, IsReplayed, IsRefused};
 
 use crate::output::put_last_line;
 use crate::replay::replay;
@@ -46,9 +46,10 @@ pub fn run_plain<S: Source, K: Sink, B: Bench, D: Disk>(
     bench: B,
     disk: D,
 ) -> (Status, B, D)
-    // What `replay` wrote follows from the bytes that it read.
-    ensures replayed { IsReplay (map string_bytes words.now)
-        → IsReplayed (S.remaining source.old) (S.remaining source.new) (K.written sink.old) (K.written sink.new) result.0 }
+    // What `replay` wrote follows from the bytes that it read, and what it left on its bench is safe; a bench whose count
+    // of faults stands at its end can't be asked whether a call of it failed.
+    ensures replayed { IsReplay (map string_bytes words.now) → CountsFaults (B.meter bench)
+        → IsReplayed (B.contents result.1) (S.remaining source.old) (S.remaining source.new) (K.written sink.old) (K.written sink.new) result.0 }
 
     // Each status comes exactly where the bytes are due it, unless a fault or want of memory comes between.
     ensures due { IsReplay (map string_bytes words.now)
@@ -83,8 +84,8 @@ pub fn run<R: Threads + Wait + Sync, S: Source, K: Sink, B: Bench, D: Disk + Sen
     disk: D,
     _meet: &M,
 ) -> (Status, B, D)
-    ensures replayed { IsReplay (map string_bytes words.now)
-        → IsReplayed (S.remaining source.old) (S.remaining source.new) (K.written sink.old) (K.written sink.new) result.0 }
+    ensures replayed { IsReplay (map string_bytes words.now) → CountsFaults (B.meter bench)
+        → IsReplayed (B.contents result.1) (S.remaining source.old) (S.remaining source.new) (K.written sink.old) (K.written sink.new) result.0 }
     ensures due { IsReplay (map string_bytes words.now)
         → (bytes : List ℕ) → IsTaken (S.remaining source.old) (S.remaining source.new) bytes → IsDue bytes result.0 }
 

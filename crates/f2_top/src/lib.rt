@@ -1,8 +1,9 @@
 //! The commands of `f2n`: from the words, the bytes of a script and a disk to what is printed and how the run ended.
 //!
 //! [`run`] and [`run_plain`] are the top of the program. Their contract: the words decide whether a command is run at
-//! all; what a `replay` wrote follows from the bytes that it read, line by line, by the machine of `f2_model`; and a
-//! fault of the source or the sink is answered only where that object's count of faults rose.
+//! all; what a `replay` wrote follows from the bytes that it read, line by line, by the machine of `f2_model`; whatever
+//! a crash may leave of the bench after a script that was run to its end stands for what that machine allows; and a fault
+//! of the source or the sink is answered only where that object's count of faults rose.
 //!
 //! `specs/Plays.antt` says what the lines of a script print and the events that they make, `specs/Replay.antt` what
 //! `replay` prints by its status, `specs/Endings.antt` has the statuses' numbers and last lines, `specs/Words.antt`

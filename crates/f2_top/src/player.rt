@@ -1,45 +1,30 @@
 //! Running the lines of a script on a volume.
-ghost use Rattle.std.specs.Prelude.{◌≡◌, ◌≤◌, ℕ, List, [], ◌∷◌, ◌++◌, IfOk, Ok, Some};
+ghost use Rattle.std.specs.Prelude.{◌≡◌, ◌≤◌, ℕ, List, [], ◌∷◌, ◌++◌, IfOk, IsSome, Ok};
 ghost use Rattle.std.specs.List.{AllByRecursion};
 ghost use Rattle.std.specs.Vec.Iter.{into_iter_items};
 ghost use Rattle.std.specs.Io.KnownBytes.{Appends};
 ghost use Rattle.f2_disk.specs.Faults.{Rose};
-ghost use Rattle.f2_core.specs.Events.{IsServed};
+ghost use Rattle.f2_core.specs.Events.{IsMade, IsServed, answer_of, event_of};
 ghost use Rattle.f2_layout.specs.Refusal.{geometry_of};
+ghost use Rattle.f2_model.specs.State.{State};
+ghost use Rattle.f2_core.specs.Seen.{limits_of};
 ghost use Rattle.f2_core.specs.declared.events.Event.TheVariants as event;
 ghost use Rattle.f2_script.specs.declared.script.Line.TheVariants as line;
 ghost use Rattle.f2_script.specs.Replies.{reply_spelling};
-ghost use Rattle.f2_top.specs.Plays.{limits_of, mkfs_text as text_of_mkfs, PlaysScript};
-ghost use Rattle.f2_top.specs.Runs.{IsPlayable, IsPlayableScript, PlaysAs, PlaysFrom, IsMounted, Ends, EndsScript};
+ghost use Rattle.f2_top.specs.Plays.{mkfs_text as text_of_mkfs, PlaysScript};
+ghost use Rattle.f2_top.specs.Replay.{CountsFaults};
+ghost use Rattle.f2_top.specs.Runs.{IsPlayable, IsPlayableScript, IsCalmMeter, StaysCalm, Comes, IsAt, PlaysOn, PlaysFrom, IsMounted, IsPlayed, IsDueLines, Ends, EndsScript};
 
 use crate::output::put;
 use crate::status::Status;
-use f2_core::{Answer, Core, Event};
-use f2_disk::{Bench, Disk, Sink};
+use f2_core::{Answer, Core, Event, making_writes};
+use f2_disk::{Bench, Sink};
 use f2_layout::{BadGeometry, Geometry};
-use f2_model::{Begun, Limits, Reply, Request};
-use f2_script::{Line, Lines, reply_text, tree_text};
+use f2_model::{Begun, Reply, Request};
+use f2_script::{Line, Lines, found_text, mounted_text, reply_text, tree_text};
 use itoa::Buffer;
 use std::alloc::{AllocError, Global};
 use std::vec::IntoIter;
-
-/// The numbers that one block of the node address table has entries for.
-const NIDS_A_BLOCK: u32 = 455;
-
-/// The most bytes of a file.
-const FILE_SIZE: u64 = 3_780_608;
-
-/// What an image of these sizes grants.
-fn limits(geometry: &Geometry) -> Limits
-    ensures { result ≡ limits_of geometry.now }
-{
-    Limits {
-        nodes: geometry.cn(),
-        data_blocks: geometry.cd(),
-        nids: NIDS_A_BLOCK * geometry.nat(),
-        size: FILE_SIZE,
-    }
-}
 
 /// What a `mkfs` line prints.
 fn mkfs_text(alloc: Global, geometry: &Geometry) -> Result<Vec<u8>, AllocError>
@@ -53,27 +38,48 @@ fn mkfs_text(alloc: Global, geometry: &Geometry) -> Result<Vec<u8>, AllocError>
     Ok(text)
 }
 
-/// The line that is printed for a reply.
-fn reply_line(alloc: Global, reply: &Reply) -> Result<Vec<u8>, AllocError>
-    ensures { IfOk result (λ text. text.items ≡ reply_spelling reply.now ++ 10 ∷ []) }
+/// The end of a line after a text.
+fn ended(mut text: Vec<u8>) -> Result<Vec<u8>, AllocError>
+    ensures { IfOk result (λ line. line.items ≡ text.items ++ 10 ∷ []) }
 {
-    let mut text = reply_text(alloc, reply)?;
     text.push(b'\n')?;
     Ok(text)
 }
 
+/// The line that is printed for a reply.
+fn reply_line(alloc: Global, reply: &Reply) -> Result<Vec<u8>, AllocError>
+    ensures { IfOk result (λ text. text.items ≡ reply_spelling reply.now ++ 10 ∷ []) }
+{
+    ended(reply_text(alloc, reply)?)
+}
+
+/// One event, for which the bench takes room before.
+fn step<B: Bench>(core: &mut Core<B>, event: Event) -> Result<Answer, AllocError>
+    requires served { IsServed event }
+    requires calm { IsCalmMeter (B.meter core.old.disk) }
+    ensures comes { IfOk result (λ answer. CountsFaults (B.meter core.old.disk)
+        → Comes (B.contents core.old.disk) (B.contents core.new.disk) core.old core.new (event_of event) (answer_of answer)) }
+    ensures calm { StaysCalm (B.meter core.old.disk) (B.meter core.new.disk) }
+    ensures geometry { core.new.geometry ≡ core.old.geometry }
+{
+    core.ready(core.writes())?;
+    Ok(core.step(event))
+}
+
 /// A call, run to its reply, and what it prints. Want of memory has no text.
-fn play_call<B: Disk>(
+fn play_call<B: Bench>(
     alloc: Global,
     core: &mut Core<B>,
     seat: u8,
     request: Request,
 ) -> Result<Vec<u8>, AllocError>
-    requires { IsServed (event.Begin seat request) }
-    ensures played { IfOk result (λ text. PlaysAs core.old.limits core.old.state (line.Call seat request) text.items core.new.state) }
-    ensures limits { core.new.limits ≡ core.old.limits }
+    requires served { IsServed (event.Begin seat request) }
+    requires calm { IsCalmMeter (B.meter core.old.disk) }
+    ensures played { IfOk result (λ text. CountsFaults (B.meter core.old.disk) → PlaysOn (B.contents core.old.disk) (B.contents core.new.disk) core.old core.new (line.Call seat request) text.items) }
+    ensures calm { StaysCalm (B.meter core.old.disk) (B.meter core.new.disk) }
+    ensures geometry { core.new.geometry ≡ core.old.geometry }
 {
-    let Answer::Begun(Begun::Replied(reply)) = core.step(Event::Begin { seat, request }) else {
+    let Answer::Begun(Begun::Replied(reply)) = step(core, Event::Begin { seat, request })? else {
         return Err(AllocError);
     };
     match reply {
@@ -82,9 +88,33 @@ fn play_call<B: Disk>(
     }
 }
 
+/// A mount, and what it prints. Want of memory has no text.
+fn play_mount<B: Bench>(alloc: Global, core: &mut Core<B>) -> Result<Vec<u8>, AllocError>
+    requires calm { IsCalmMeter (B.meter core.old.disk) }
+    ensures played { IfOk result (λ text. CountsFaults (B.meter core.old.disk) → PlaysOn (B.contents core.old.disk) (B.contents core.new.disk) core.old core.new line.Mount text.items) }
+    ensures calm { StaysCalm (B.meter core.old.disk) (B.meter core.new.disk) }
+    ensures geometry { core.new.geometry ≡ core.old.geometry }
+{
+    match step(core, Event::Mount)? {
+        Answer::Found(rows) => ended(found_text(alloc, rows)?),
+        Answer::Mounted => ended(Vec::from_slice(alloc, mounted_text())?),
+        _ => Err(AllocError),
+    }
+}
+
+/// A crash that leaves the image of this pick, and what it prints.
+fn play_crash<B: Bench>(alloc: Global, core: &mut Core<B>, pick: u64) -> Result<Vec<u8>, AllocError>
+    ensures played { IfOk result (λ text. PlaysOn (B.contents core.old.disk) (B.contents core.new.disk) core.old core.new (line.Crash pick) text.items) }
+    ensures calm { IsCalmMeter (B.meter core.old.disk) → StaysCalm (B.meter core.old.disk) (B.meter core.new.disk) }
+    ensures geometry { core.new.geometry ≡ core.old.geometry }
+{
+    core.crash(pick)?;
+    reply_line(alloc, &Reply::Done)
+}
+
 /// What is printed of the tree.
-fn play_tree<B: Disk>(alloc: Global, core: &Core<B>) -> Result<Vec<u8>, AllocError>
-    ensures { IfOk result (λ text. PlaysAs core.now.limits core.now.state line.Tree text.items core.now.state) }
+fn play_tree<B: Bench>(alloc: Global, core: &Core<B>) -> Result<Vec<u8>, AllocError>
+    ensures { IfOk result (λ text. PlaysOn (B.contents core.now.disk) (B.contents core.now.disk) core.now core.now line.Tree text.items) }
 {
     match core.tree() {
         Some(tree) => tree_text(alloc, tree),
@@ -93,28 +123,35 @@ fn play_tree<B: Disk>(alloc: Global, core: &Core<B>) -> Result<Vec<u8>, AllocErr
 }
 
 /// Runs a line, and gives what it prints.
-fn play_line<B: Disk>(alloc: Global, core: &mut Core<B>, line: Line) -> Result<Vec<u8>, AllocError>
-    requires { IsPlayable line }
-    ensures played { IfOk result (λ text. PlaysAs core.old.limits core.old.state line text.items core.new.state) }
-    ensures limits { core.new.limits ≡ core.old.limits }
+fn play_line<B: Bench>(alloc: Global, core: &mut Core<B>, line: Line) -> Result<Vec<u8>, AllocError>
+    requires playable { IsPlayable line }
+    requires calm { IsCalmMeter (B.meter core.old.disk) }
+    ensures played { IfOk result (λ text. CountsFaults (B.meter core.old.disk) → PlaysOn (B.contents core.old.disk) (B.contents core.new.disk) core.old core.new line text.items) }
+    ensures calm { StaysCalm (B.meter core.old.disk) (B.meter core.new.disk) }
+    ensures geometry { core.new.geometry ≡ core.old.geometry }
 {
     match line {
         Line::Call { seat, request } => play_call(alloc, core, seat, request),
+        Line::Crash { pick } => play_crash(alloc, core, pick),
+        Line::Mount => play_mount(alloc, core),
         Line::Tree => play_tree(alloc, core),
         _ => unreachable!(),
     }
 }
 
 /// Runs lines one after another, and writes what each prints as soon as it was run.
-fn play_lines<K: Sink, B: Disk>(
+fn play_lines<K: Sink, B: Bench>(
     alloc: Global,
     sink: &mut K,
     mut core: Core<B>,
     mut lines: IntoIter<Line>,
 ) -> (Status, B)
-    requires { AllByRecursion IsPlayable (into_iter_items lines) }
-    ensures ends { (out : List ℕ) × Appends (K.written sink.old) (K.written sink.new) out
-        × Ends (PlaysFrom core.limits core.state) (into_iter_items lines) result.0 out }
+    requires playable { AllByRecursion IsPlayable (into_iter_items lines) }
+    requires calm { IsCalmMeter (B.meter core.disk) }
+    ensures ends { CountsFaults (B.meter core.disk) → (from : State) → IsAt (B.contents core.disk) core from
+        → (out : List ℕ) × Appends (K.written sink.old) (K.written sink.new) out
+        × Ends (λ told. PlaysFrom told (limits_of core.geometry) from) (B.contents result.1) (into_iter_items lines) result.0 out }
+    ensures played { IsPlayed result.0 }
     ensures later { K.faults sink.old ≤ K.faults sink.new }
     ensures cause { result.0 ≡ Status.SinkFault → Rose (K.faults sink.old) (K.faults sink.new) }
 {
@@ -129,15 +166,28 @@ fn play_lines<K: Sink, B: Disk>(
     (Status::Done, core.into_disk())
 }
 
-/// Makes an image on a bench and mounts a volume on it. Where memory is refused the bench comes back.
-fn mount<B: Bench>(alloc: Global, mut bench: B, geometry: &Geometry) -> Result<Core<B>, B>
-    ensures { IfOk result (IsMounted geometry.now) }
+/// Makes an image with the root alone on a bench that begins anew. Where memory is refused the bench comes back.
+fn make<B: Bench>(alloc: Global, mut bench: B, geometry: &Geometry) -> Result<Core<B>, B>
+    ensures made { IfOk result (λ core. IsMade geometry.now (B.contents core.disk) core) }
+    ensures tells { IfOk result (λ core. IsSome (B.contents core.disk)) }
+    ensures calm { IfOk result (λ core. StaysCalm (B.meter bench) (B.meter core.disk)) }
 {
-    if bench.start(geometry.blocks()).is_err() {
+    if bench.start(geometry.blocks()).is_err() || bench.ready(making_writes(geometry)).is_err() {
         return Err(bench);
     }
-    let mut core = Core::shut(alloc, bench, limits(geometry))?;
-    let Answer::Found(_) = core.step(Event::Mount) else {
+    match Core::made(alloc, bench, *geometry) {
+        Ok(core) => Ok(core),
+        Err((_, bench)) => Err(bench),
+    }
+}
+
+/// Makes an image on a bench and mounts a volume on it. Where memory is refused the bench comes back.
+fn mount<B: Bench>(alloc: Global, bench: B, geometry: &Geometry) -> Result<Core<B>, B>
+    ensures mounted { IfOk result (λ core. CountsFaults (B.meter bench) → IsMounted geometry.now (B.contents core.disk) core) }
+    ensures calm { IfOk result (λ core. StaysCalm (B.meter bench) (B.meter core.disk)) }
+{
+    let mut core = make(alloc, bench, geometry)?;
+    let Ok(Answer::Found(_)) = step(&mut core, Event::Mount) else {
         return Err(core.into_disk());
     };
     Ok(core)
@@ -153,8 +203,9 @@ fn play_image<K: Sink, B: Bench>(
 ) -> (Status, B)
     requires sizes { geometry_of geometry.now ≡ Ok geometry.now }
     requires lines { AllByRecursion IsPlayable (into_iter_items lines) }
-    ensures ends { (out : List ℕ) × Appends (K.written sink.old) (K.written sink.new) out
-        × Ends PlaysScript (line.Mkfs geometry.now.blocks geometry.now.nat ∷ into_iter_items lines) result.0 out }
+    ensures ends { CountsFaults (B.meter bench) → (out : List ℕ) × Appends (K.written sink.old) (K.written sink.new) out
+        × Ends PlaysScript (B.contents result.1) (line.Mkfs geometry.now.blocks geometry.now.nat ∷ into_iter_items lines) result.0 out }
+    ensures played { IsPlayed result.0 }
     ensures later { K.faults sink.old ≤ K.faults sink.new }
     ensures cause { result.0 ≡ Status.SinkFault → Rose (K.faults sink.old) (K.faults sink.new) }
 {
@@ -178,8 +229,10 @@ pub(crate) fn play<K: Sink, B: Bench>(
     bench: B,
     lines: Lines,
 ) -> (Status, B)
-    requires { IsPlayableScript lines }
-    ensures ends { (out : List ℕ) × Appends (K.written sink.old) (K.written sink.new) out × EndsScript lines result.0 out }
+    requires playable { IsPlayableScript lines }
+    ensures ends { CountsFaults (B.meter bench) → (out : List ℕ) × Appends (K.written sink.old) (K.written sink.new) out
+        × EndsScript (B.contents result.1) lines result.0 out }
+    ensures due { IsDueLines lines result.0 }
     ensures later { K.faults sink.old ≤ K.faults sink.new }
     ensures cause { result.0 ≡ Status.SinkFault → Rose (K.faults sink.old) (K.faults sink.new) }
 {

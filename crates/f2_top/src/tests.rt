@@ -38,36 +38,85 @@ fn prints_faulty(
     Ok(status == want && sink.bytes() == text)
 }
 
+/// Whether a `replay` of this script is done, and prints this.
+fn replays(alloc: Global, script: &[u8], text: &[u8]) -> Result<bool, AllocError> {
+    let words = [String::from_str(alloc, "replay")?];
+    prints(alloc, &words, script, Status::Done, text)
+}
+
 #[test]
 fn scripts(rt: HostRuntime) -> Result<(), AllocError> {
+    let alloc = rt.alloc();
+    let rows: [(&[u8], &[u8]); 3] = [
+        (b"", b""),
+        (b"mkfs 128 1\ntree\n", b"ok mkfs 9 30\n/ dir\n"),
+        (
+            b"mkfs 128 1\ncall 1 create /a\ntree",
+            b"ok mkfs 9 30\nok\n/ dir\n/a file 0 0 0\n",
+        ),
+    ];
+    for (script, text) in rows {
+        assert!(rt; replays(alloc, script, text)?);
+    }
+    Ok(())
+}
+
+#[test]
+fn refused_scripts(rt: HostRuntime) -> Result<(), AllocError> {
     let alloc = rt.alloc();
     let words = [String::from_str(alloc, "replay")?];
     let too_few = Status::Geometry {
         limit: Limit::Blocks,
         value: 127,
     };
-    let rows: [(&[u8], Status, &[u8]); 5] = [
-        (b"", Status::Done, b""),
+    let text = b"f2n: geometry blocks 127\n";
+    assert!(rt; prints(alloc, &words, b"mkfs 127 1\n", too_few, text)?);
+    let second = Status::Script { line: 2 };
+    let script = b"mkfs 128 1\ncal 1 sync\n";
+    assert!(rt; prints(alloc, &words, script, second, b"f2n: script line 2\n")?);
+    Ok(())
+}
+
+#[test]
+fn syncs_crashes_and_mounts(rt: HostRuntime) -> Result<(), AllocError> {
+    let alloc = rt.alloc();
+    let rows: [(&[u8], &[u8]); 3] = [
         (
-            b"mkfs 128 1\ntree\n",
-            Status::Done,
-            b"ok mkfs 9 30\n/ dir\n",
+            b"mkfs 128 1\ncall 1 create /a\ncall 1 sync\ncrash 0\nmount\ntree\n",
+            b"ok mkfs 9 30\nok\nok sync\nok\nok mount 0\n/ dir\n/a file 0 0 0\n",
         ),
         (
-            b"mkfs 128 1\ncall 1 create /a\ntree",
-            Status::Done,
-            b"ok mkfs 9 30\nok\n/ dir\n/a file 0 0 0\n",
+            b"mkfs 128 1\ncall 1 create /a\ncrash 0\ncall 1 create /b\ntree\nmount\ntree\n",
+            b"ok mkfs 9 30\nok\nok\nclosed\nclosed\nok mount 0\n/ dir\n",
         ),
-        (b"mkfs 127 1\n", too_few, b"f2n: geometry blocks 127\n"),
         (
-            b"mkfs 128 1\ncal 1 sync\n",
-            Status::Script { line: 2 },
-            b"f2n: script line 2\n",
+            b"mkfs 128 1\nmount\ncall 1 sync\ncall 2 create /a\n",
+            b"ok mkfs 9 30\nmounted\nok sync\nok\n",
         ),
     ];
-    for (script, status, text) in rows {
-        assert!(rt; prints(alloc, &words, script, status, text)?);
+    for (script, text) in rows {
+        assert!(rt; replays(alloc, script, text)?);
     }
+    Ok(())
+}
+
+/// A script with as many files as nine nodes have room for, and one more.
+const NINE_FILES: &[u8] = b"mkfs 128 1\n\
+call 1 create /1\n\
+call 1 create /2\n\
+call 1 create /3\n\
+call 1 create /4\n\
+call 1 create /5\n\
+call 1 create /6\n\
+call 1 create /7\n\
+call 1 create /8\n\
+call 1 create /9\n";
+
+#[test]
+fn no_node_is_left(rt: HostRuntime) -> Result<(), AllocError> {
+    let alloc = rt.alloc();
+    let text = b"ok mkfs 9 30\nok\nok\nok\nok\nok\nok\nok\nok\nnospace node 10 9\n";
+    assert!(rt; replays(alloc, NINE_FILES, text)?);
     Ok(())
 }
 

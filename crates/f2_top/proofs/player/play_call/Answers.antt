@@ -1,15 +1,15 @@
 use Rattle.f2_model.specs.Step.{Begin, replied}
-use Rattle.f2_core.specs.Events.{ComesTo}
-use Rattle.f2_top.proofs.PlayLemmas.{IfOk-map, PlaysAs-call}
+use Rattle.f2_top.specs.Runs.{Comes}
+use Rattle.f2_top.proofs.CoreLemmas.{PlaysOn-call}
+use Rattle.f2_top.proofs.PlayLemmas.{IfOk-map}
 use Rattle.f2_top.proofs.player.play_call.Goals as goal
 
-pub returns-in_default-reply : goal.returns-in_default-reply
-returns-in_default-reply g c =
-    let comes : ComesTo c.args.core.now c.step.new.self (Begin c.args.seat c.args.request) (replied c.in-Begun-Replied.reply) =
-    rw c.in-Begun-Replied.field-0-is at c.in-Begun-Replied.ensures in
-    record {
-      played = IfOk-map _ _ c.reply_line.result
-          (λ v h. PlaysAs-call c.args.core.now c.step.new.self c.args.seat c.args.request c.in-Begun-Replied.reply v.items comes c.in_default-reply.not-Memory h)
-          c.reply_line.ensures;
-      limits = c.step.ensures.limits;
-    }
+pub returns-in_default-reply-clause-played : goal.returns-in_default-reply-clause-played
+returns-in_default-reply-clause-played g c =
+    IfOk-map _ _ c.reply_line.result
+    (λ v h. λ counts.
+    let comes : Comes (g.B.Disk.contents c.args.core.now.disk) (g.B.Disk.contents c.step.new.core.disk) c.args.core.now c.step.new.core
+    (Begin c.args.seat c.args.request) (replied c.in-Begun-Replied.reply) =
+    rw c.in-Begun-Replied.field-0-is at (rw c.in-Begun-Replied.is at (c.in_ok-reply.ensures.comes counts)) in
+    PlaysOn-call _ _ c.args.core.now c.step.new.core c.args.seat c.args.request c.in-Begun-Replied.reply v.items comes c.in_default-reply.not-Memory h)
+    c.reply_line.ensures

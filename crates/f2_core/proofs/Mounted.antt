@@ -1,0 +1,53 @@
+-- What a mount of a closed core comes to.
+use Rattle.std.proofs.Common.{◌≡◌, ◌⊎◌, inl, inr, Result, Ok, Err, is_err, OnErr, true, false, refl, sym, ap, ◌∙◌, true≢false}
+use Rattle.std.specs.Prelude.{Option, Some, None, IfSome, IsSome, is_some}
+use Rattle.f2_format.specs.Geometry.{Extent}
+use Rattle.f2_disk.specs.Contents.{Contents}
+use Rattle.f2_model.specs.Tree.{Rows}
+use Rattle.f2_model.specs.State.{State}
+use Rattle.f2_model.specs.Step as machine
+use Rattle.f2_model.specs.Step.{Mount}
+use Rattle.f2_model.specs.History.{History}
+use Rattle.f2_laid.specs.declared.stored.Stored.{Stored}
+use Rattle.f2_core.specs.Seen.{IsFlat, IsHeld, IsIn}
+use Rattle.f2_core.specs.Events.{ComesTo, refusal_of}
+use Rattle.f2_core.specs.Found.{FindsHeld, StaysHeld}
+use Rattle.f2_core.specs.declared.events.MountFault.{MountFault}
+use Rattle.f2_core.specs.declared.events.MountFault.TheVariants as fault
+use Rattle.f2_core.specs.declared.volumes.Volume.{Volume}
+use Rattle.f2_core.proofs.Comes.{seen}
+use Rattle.f2_core.proofs.Unchanged.{unmounted, unfound}
+
+pub on_err : {A E : Type 0} {P : Type 0} (result : Result A E) → is_err result ≡ true → OnErr result P → P
+on_err (Ok x) none p = absurd (true≢false (sym none))
+on_err (Err e) none p = p
+
+pub some_of : {X : Type 0} (o : Option X) → is_some o ≡ true → (x : X) × (o ≡ Some x)
+some_of None is = absurd (true≢false (sym is))
+some_of (Some x) is = (x, refl)
+
+pub none_of : {X : Type 0} (o : Option X) → is_some o ≡ false → o ≡ None
+none_of None is = refl
+none_of (Some x) is = absurd (true≢false is)
+
+-- a disk that tells what it holds, and holds one image, keeps it where that is so
+pub still_told : (extent : Extent) (was now : Option Contents) (base : Rows) (stored : Stored) → IsSome was → IfSome was (λ lists. IsHeld extent lists base stored) → StaysHeld extent was now → now ≡ was
+still_told extent None now base stored tells held stays = absurd (cc)
+still_told extent (Some lists) now base stored tells held stays = stays base stored held
+
+-- and its tree is found
+pub found_is : (extent : Extent) (was : Option Contents) (base : Rows) (stored : Stored) (volume : Volume) → IsSome was → IsFlat extent base → IfSome was (λ lists. IsHeld extent lists base stored) → FindsHeld extent was volume
+    → (volume.tree ≡ base) × (volume.stored ≡ stored)
+found_is extent None base stored volume tells flat held found = absurd (cc)
+found_is extent (Some lists) base stored volume tells flat held found = found base stored flat held
+
+-- a mount that finds no tree, where no call of the disk failed
+pub not_found : {D : Type 0} (disk after_disk : D) (extent : Extent) (volume : Option Volume) (before room after : History) (was told : Option Contents) (from : State) (why : MountFault) → IsIn extent was volume before from → volume ≡ None
+    → ((why ≡ fault.Read) ⊎ (why ≡ fault.Write) → ⊥) → (why ≡ fault.Bad → after ≡ room) → (why ≡ fault.Memory → after ≡ room) → room.entries ≡ before.entries → room.choices ≡ before.choices → told ≡ was
+    → ComesTo (seen disk extent volume before) (seen after_disk extent volume after) told from Mount (machine.NotMounted (refusal_of why))
+not_found disk after_disk extent volume before room after was told from fault.Read at none calm bad memory entries choices same = absurd (calm (inl refl))
+not_found disk after_disk extent volume before room after was told from fault.Write at none calm bad memory entries choices same = absurd (calm (inr refl))
+not_found disk after_disk extent volume before room after was told from fault.Bad at none calm bad memory entries choices same =
+    unfound disk after_disk extent volume before after was told from at none (ap (λ (h : History). h.entries) (bad refl) ∙ entries) (ap (λ (h : History). h.choices) (bad refl) ∙ choices) same
+not_found disk after_disk extent volume before room after was told from fault.Memory at none calm bad memory entries choices same =
+    unmounted disk after_disk extent volume before after was told from at none (ap (λ (h : History). h.entries) (memory refl) ∙ entries) (ap (λ (h : History). h.choices) (memory refl) ∙ choices) same

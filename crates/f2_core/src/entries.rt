@@ -1,0 +1,63 @@
+//! What checkpoints and faults of the disk leave in the history.
+ghost use Rattle.std.specs.Prelude.{◌≡◌, ◌≢◌, ◌+◌, ◌<◌, ◌≤◌, ◌++◌, [], ◌∷◌, option_to_list};
+ghost use Rattle.f2_model.specs.declared.histories.Entry.TheVariants as entry;
+ghost use Rattle.f2_model.specs.declared.replies.Plan.TheVariants as plan;
+ghost use Rattle.f2_model.specs.declared.requests.Request.TheVariants.{Sync};
+
+use crate::events::MountFault;
+use f2_model::{CallKind, Entry, Log, Plan, Request};
+
+/// The seat that stands in a fault of a mount.
+const NO_SEAT: u8 = 255;
+
+/// That a seat began a sync.
+pub(crate) fn sync_begun(seat: u8) -> Entry
+    ensures { result ≡ entry.Begin seat Sync }
+{
+    Entry::Begin {
+        seat,
+        request: Request::Sync,
+    }
+}
+
+/// Appends what a call left that made its whole checkpoint: its own entry, then that the checkpoint began, wrote its
+/// tail and was done.
+pub(crate) fn add_checkpoint(history: &mut Log, first: Entry, choice: Option<u32>, seat: u8)
+    requires { 4 ≤ history.old.spare }
+    ensures entries { history.new.entries ≡ history.old.entries ++ first ∷ entry.CpBegin seat plan.Sync ∷ entry.CpTail seat ∷ entry.CpDone seat ∷ [] }
+    ensures choices { history.new.choices ≡ history.old.choices ++ option_to_list choice }
+    ensures spare { history.new.spare + 4 ≡ history.old.spare }
+{
+    history.add(first, choice);
+    let plan = Plan::Sync;
+    history.add(Entry::CpBegin { seat, plan }, None);
+    history.add(Entry::CpTail { seat }, None);
+    history.add(Entry::CpDone { seat }, None);
+}
+
+/// Appends what a call left whose checkpoint met a fault: its own entry, then that the checkpoint began, and the fault.
+pub(crate) fn add_fault(history: &mut Log, first: Entry, choice: Option<u32>, seat: u8, count: u64)
+    requires { 3 ≤ history.old.spare }
+    ensures { history.new.spare + 3 ≡ history.old.spare }
+{
+    history.add(first, choice);
+    let plan = Plan::Sync;
+    history.add(Entry::CpBegin { seat, plan }, None);
+    let kind = CallKind::Write;
+    history.add(Entry::Fault { seat, kind, count }, None);
+}
+
+/// Appends the fault of the disk that kept a mount from finding a tree, where one did.
+pub(crate) fn add_unfound(history: &mut Log, fault: MountFault, count: u64)
+    requires { 1 ≤ history.old.spare }
+    ensures bad { fault ≡ MountFault.Bad → history.new ≡ history.old }
+    ensures memory { fault ≡ MountFault.Memory → history.new ≡ history.old }
+{
+    let kind = match fault {
+        MountFault::Read => CallKind::Read,
+        MountFault::Write => CallKind::Flush,
+        MountFault::Bad | MountFault::Memory => return,
+    };
+    let seat = NO_SEAT;
+    history.add(Entry::Fault { seat, kind, count }, None);
+}
