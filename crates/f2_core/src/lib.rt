@@ -6,11 +6,12 @@
 //! the root alone.
 //!
 //! So far a core has empty files in the root. [`Core::made`] makes its image; a sync writes the whole tree as the next
-//! checkpoint; a mount builds the tree from the blocks alone. Nothing is claimed from an event on that meets a fault of
-//! the disk.
+//! checkpoint; a mount builds the tree from the blocks alone. Claims are made of disks that tell what they hold, and
+//! nothing is claimed from an event on in which a call of the disk fails.
 //!
 //! `specs/Seen` says what contracts see of a core and which states it may be in, `specs/Events` what a call comes to,
-//! `specs/Added` how a file is added, and `specs/Writes` how many writes an event makes at most.
+//! `specs/Added` how a file is added, `specs/Found` what is found on a disk, and `specs/Writes` how many writes an event
+//! makes at most.
 #![tactic(auto)]
 
 mod checkpoints;
