@@ -1,5 +1,5 @@
 -- The names of files while the directories of a tree are read.
-use Rattle.std.proofs.Common.{◌≡◌, ◌≢◌, ℕ, ◌+◌, ◌<◌, ◌≤◌, ◌==◌, Bool, true, false, ◌||◌, List, [], ◌∷◌, refl, sym, ap, subst, ◌∙◌, arith, inl, inr, eq-eqb}
+use Rattle.std.proofs.Common.{◌≡◌, ◌≢◌, ℕ, ◌+◌, ◌<◌, ◌≤◌, ◌==◌, Bool, true, false, ◌||◌, List, [], ◌∷◌, refl, sym, ap, ◌∙◌, arith, inl, inr, eq-eqb}
 use Rattle.std.specs.Prelude.{Option, Some, None, ◌⊎◌, nat_lt, if◌then◌else◌}
 use Rattle.std.specs.List.{AllByRecursion, list_any}
 use Rattle.std.specs.FinMap as map
@@ -8,11 +8,9 @@ use Rattle.f2_format.specs.Dentry.{Dentry}
 use Rattle.f2_format.specs.Geometry.{Extent, IsGeometry}
 use Rattle.f2_laid.specs.Laid.{IsStorable, IsBound, AreDentries}
 use Rattle.f2_laws.proofs.Maps.{get_put, get_put-other}
-use Rattle.f2_laws.proofs.Passed.{kinds_differ}
 use Rattle.f2_laws.proofs.Places.{same_or_other}
 use Rattle.f2_model.specs.Tree.{Rows, ROOT}
 use Rattle.f2_model.specs.declared.rows.Row.{Row}
-use Rattle.f2_model.specs.declared.rows.Kind.TheVariants.{Regular, Directory}
 use Rattle.f2_plain_read.specs.Bindings.{NameMap, with_name, with_names, AreFresh}
 use Rattle.f2_plain_read.specs.Building.{bound_of, bound_below}
 use Rattle.f2_plain_read.specs.declared.names.Bound.{Bound}

@@ -1,14 +1,12 @@
 -- What is built of the files of an image that is laid out, one ino after another.
-use Rattle.std.proofs.Common.{◌≡◌, ◌≢◌, ℕ, ◌+◌, ◌<◌, ◌≤◌, Bool, true, false, List, [], length, refl, sym, ap, subst, ◌∙◌, arith, inl, inr}
-use Rattle.std.specs.Prelude.{Option, Some, None, ◌⊎◌, nat_lt, if◌then◌else◌, option_map}
-use Rattle.std.specs.List.{slice_index, flat_map, slice_get}
+use Rattle.std.proofs.Common.{◌≡◌, ◌≢◌, ℕ, ◌+◌, ◌<◌, ◌≤◌, Bool, List, [], refl, sym, ap, subst, ◌∙◌, arith, inl, inr}
+use Rattle.std.specs.Prelude.{Option, Some, None, ◌⊎◌, if◌then◌else◌, option_map}
 use Rattle.std.specs.Ordering.{nat_cmp}
 use Rattle.std.specs.FinMap as map
 use Rattle.std.proofs.lemmas.Bool.{lt-ltb, le-ltb, cases_lt}
 use Rattle.f2_dentry_block.specs.Packed.{packed_blocks}
-use Rattle.f2_format.specs.Dentry.{Dentry, dentries_of}
-use Rattle.f2_format.specs.Geometry.{Extent, IsGeometry}
-use Rattle.f2_format.specs.Offsets.{inode_pages}
+use Rattle.f2_format.specs.Dentry.{Dentry}
+use Rattle.f2_format.specs.Geometry.{IsGeometry}
 use Rattle.f2_image.specs.Images.{Image, block_at}
 use Rattle.f2_laid.specs.Laid.{PlaceMap, at_of, page_in, AreDentries, HoldsContent, file, directory}
 use Rattle.f2_laid.specs.declared.places.Place.{Place}

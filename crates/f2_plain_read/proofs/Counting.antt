@@ -3,28 +3,28 @@ use Rattle.std.proofs.Common.{◌≡◌, ◌≢◌, ℕ, zero, suc, ◌+◌, ◌
 use Rattle.std.specs.Prelude.{T, Option, Some, None, ◌⊎◌, not, if◌then◌else◌}
 use Rattle.std.specs.List.{count_by, sum_by, slice_get, flat_map}
 use Rattle.std.specs.Option.{option_map}
-use Rattle.std.specs.Ordering.{nat_cmp, is_lt, is_eq, eq_by_cmp}
+use Rattle.std.specs.Ordering.{nat_cmp, is_lt, is_eq}
 use Rattle.std.specs.Cmp.{nat_cmp_total}
 use Rattle.std.specs.FinMap as map
 use Rattle.std.specs.FinMap.{nat_cmp-IsAntisymmetric, entries, entries_sorted, get-entries, len-entries, find, is_sorted}
 use Rattle.std.specs.FinMap.Entries.{below_all, same_entries}
 use Rattle.std.specs.FinSet as set
-use Rattle.std.proofs.lemmas.Bool.{ne_eqb, eqb-true, cases_lt}
+use Rattle.std.proofs.lemmas.Bool.{ne_eqb}
 use Rattle.std.proofs.lemmas.List.{take_all, length-map}
 use Rattle.std.proofs.lemmas.List.Sums.{sum_by-cons, count_by_more_no, count_by_more_yes}
 use Rattle.f2_dentry_block.specs.Packed.{packed_blocks}
 use Rattle.f2_dentry_block.proofs.PackedBlocks.{length-packed_blocks}
-use Rattle.f2_format.specs.Geometry.{Extent, IsGeometry}
+use Rattle.f2_format.specs.Geometry.{Extent}
 use Rattle.f2_format.specs.Offsets.{inode_pages, nodes_over, nodes_of_page, node_count}
 use Rattle.f2_format.specs.Packing.{blocks_of_names}
 use Rattle.f2_image.specs.Images.{Image, block_at}
 use Rattle.f2_image.specs.Nodes.{block_there}
-use Rattle.f2_laid.specs.Laid.{PlaceMap, IsKept, IsPlaced, page_at, page_in, pages_of_place, HoldsContent, file, directory, AreDentries}
+use Rattle.f2_laid.specs.Laid.{IsKept, IsPlaced, page_in, pages_of_place, HoldsContent, file, directory}
 use Rattle.f2_laid.specs.declared.places.Place.{Place}
 use Rattle.f2_laid.specs.declared.stored.Stored.{Stored}
 use Rattle.f2_laws.proofs.Places.{same_or_other}
 use Rattle.f2_model.specs.Content.{PageMap}
-use Rattle.f2_model.specs.Count.{nodes_of_row, nodes_of_tree, data_of_row, data_of_kind, data_of_tree, dentry_blocks, page_numbers}
+use Rattle.f2_model.specs.Count.{nodes_of_row, data_of_row, data_of_kind, dentry_blocks, page_numbers}
 use Rattle.f2_model.specs.Tree.{Rows}
 use Rattle.f2_model.specs.declared.rows.Row.{Row}
 use Rattle.f2_model.specs.declared.rows.Kind.{Kind}
@@ -32,10 +32,9 @@ use Rattle.f2_model.specs.declared.rows.Kind.TheVariants.{Regular, Directory}
 use Rattle.f2_plain_read.specs.Reads.{IsLaidOut}
 use Rattle.f2_plain_read.proofs.Keeping.{below, below-get, below-same, below-all, len-next, same}
 use Rattle.f2_plain_read.proofs.Building.{up_to-past}
-use Rattle.f2_plain_read.proofs.InImage.{sized_geometry}
 use Rattle.f2_plain_read.proofs.Pages.{there_is, none_is}
 use Rattle.f2_plain_read.proofs.Taking.{not_both}
-use Rattle.f2_plain_read.proofs.Standing.{Stands, one_some, some_none}
+use Rattle.f2_plain_read.proofs.Standing.{one_some, some_none}
 
 -- values, with f of each
 module _ {X : Type 0} (f : X → ℕ) where

@@ -1,17 +1,17 @@
 -- What is found of an image that is laid out.
-use Rattle.std.proofs.Common.{◌≡◌, ◌≢◌, ℕ, ◌+◌, ◌*◌, ◌/◌, ◌%◌, ◌<◌, ◌≤◌, Bool, List, [], length, refl, sym, ap, subst, ◌∙◌, arith, inl, inr}
+use Rattle.std.proofs.Common.{◌≡◌, ℕ, ◌+◌, ◌*◌, ◌<◌, ◌≤◌, Bool, List, [], length, refl, sym, ap, subst, ◌∙◌, arith, inl, inr}
 use Rattle.std.specs.Prelude.{Option, Some, None, ◌⊎◌, map as map_list}
 use Rattle.std.specs.List.{slice_index, range_with_len}
 use Rattle.std.specs.Option.{unwrap_or}
 use Rattle.std.specs.FinMap as map
 use Rattle.std.proofs.lemmas.Bool.{cases_lt}
 use Rattle.f2_format.specs.Geometry.{Extent, ENTRIES_A_NAT_BLOCK, nat_address, nid_limit}
-use Rattle.f2_format.specs.Journal.{journal_count, journal_of, journal_entry, journal_find}
-use Rattle.f2_format.specs.Nat.{NodePlace, nat_entry, nat_block_of, nat_place_of, is_second_copy}
+use Rattle.f2_format.specs.Journal.{journal_entry, journal_find}
+use Rattle.f2_format.specs.Nat.{NodePlace, nat_entry, nat_block_of, nat_place_of}
 use Rattle.f2_image.specs.Images.{Image, block_at}
 use Rattle.f2_image.specs.Nodes.{nat_copy, place_of_nid}
 use Rattle.f2_image.specs.Packs.{Checkpoint, journal}
-use Rattle.f2_laid.specs.Laid.{PlaceMap, at_of, IsKept, IsLaidAt}
+use Rattle.f2_laid.specs.Laid.{PlaceMap, IsLaidAt}
 use Rattle.f2_laid.specs.declared.places.Place.{Place}
 use Rattle.f2_laid.specs.declared.stored.Stored.{Stored}
 use Rattle.f2_model.specs.Tree.{Rows}
@@ -25,7 +25,6 @@ use Rattle.f2_plain_read.specs.declared.point.Point.{Point}
 use Rattle.f2_plain_read.proofs.Building.{up_to-in, up_to-past}
 use Rattle.f2_plain_read.proofs.InImage.{sized_fits}
 use Rattle.f2_plain_read.proofs.Keeping.{same}
-use Rattle.f2_plain_read.proofs.Standing.{some_none}
 
 module _ (image : Image) (tree : Rows) (stored : Stored) (out : IsLaidOut image tree stored) where
   abbrev point : Checkpoint

@@ -1,8 +1,8 @@
 -- Addresses of a zone stand in the image.
-use Rattle.std.proofs.Common.{◌≡◌, ◌≢◌, ℕ, ◌+◌, ◌-◌, ◌*◌, ◌/◌, ◌<◌, ◌≤◌, Bool, true, false, List, length, refl, sym, ap, subst, ◌∙◌, arith}
+use Rattle.std.proofs.Common.{◌≡◌, ℕ, ◌+◌, ◌*◌, ◌<◌, ◌≤◌, Bool, true, false, length, refl, sym, ap, subst, arith}
 use Rattle.std.specs.Prelude.{nat_lt, not, ◌&&◌, IsTrue}
 use Rattle.std.proofs.lemmas.Bool.{ltb-true, ltb-false}
-use Rattle.f2_format.specs.Geometry.{Extent, IsGeometry, main_blocks, node_third, data_third, node_start, data_start, is_in_node, is_in_data, NAT_START}
+use Rattle.f2_format.specs.Geometry.{Extent, IsGeometry, node_third, data_third, node_start, data_start, is_in_node, is_in_data, NAT_START}
 use Rattle.f2_format.specs.Superblock.{super_extent}
 use Rattle.f2_image.specs.Images.{Image, block_at, IsSized, IsRightCopy, by_first, by_second}
 use Rattle.f2_laws.proofs.Passed.{both_true}

@@ -1,10 +1,9 @@
 -- The places of files, taken one after another.
-use Rattle.std.proofs.Common.{◌≡◌, ◌≢◌, ℕ, ◌+◌, ◌<◌, ◌≤◌, ◌==◌, Bool, true, false, cond, List, [], ◌∷◌, map as map_list, length, take, get_or, refl, sym, ap, subst, ◌∙◌, arith, inl, inr}
+use Rattle.std.proofs.Common.{◌≡◌, ◌≢◌, ℕ, ◌+◌, ◌<◌, ◌≤◌, ◌==◌, true, cond, List, [], ◌∷◌, map as map_list, length, take, refl, sym, ap, ◌∙◌, arith, inl, inr}
 use Rattle.std.specs.Prelude.{Option, Some, None, ◌⊎◌, not, nat_lt, is_some, IsTrue}
-use Rattle.std.specs.List.{count_by, sum_by, slice_index}
+use Rattle.std.specs.List.{count_by, sum_by}
 use Rattle.std.specs.Option.{option_map, unwrap_or}
 use Rattle.std.specs.Ordering.{nat_cmp}
-use Rattle.std.specs.declared.cmp.Ordering.TheVariants.{Equal}
 use Rattle.std.specs.Cmp.{nat_cmp_total}
 use Rattle.std.specs.FinMap as map
 use Rattle.std.specs.FinMap.{nat_cmp-IsAntisymmetric}
@@ -18,7 +17,7 @@ use Rattle.f2_laid.specs.Laid.{PlaceMap, IsKept, page_at, pages_of_place}
 use Rattle.f2_laid.specs.declared.places.Place.{Place}
 use Rattle.f2_laws.proofs.Places.{same_or_other}
 use Rattle.f2_plain_read.specs.Building.{AreBelow, up_to}
-use Rattle.f2_plain_read.specs.Keeping.{IsFreeNode, IsFreePage, AreNew, IsAmong, AreTaken, places_below, AreKeptBelow}
+use Rattle.f2_plain_read.specs.Keeping.{IsFreeNode, AreNew, IsAmong, AreTaken, places_below, AreKeptBelow}
 use Rattle.f2_plain_read.proofs.Building.{put_next, none_next, up_to-past, up_to-in}
 use Rattle.f2_plain_read.proofs.Standing.{one_some, some_none}
 use Rattle.f2_plain_read.proofs.Taking.{Taken, not_both, not_true, here, stays, one_of, one_more}

@@ -1,6 +1,6 @@
 -- The names of a directory of a tree that can be stored.
-use Rattle.std.proofs.Common.{◌≡◌, ◌≢◌, ℕ, suc, ◌+◌, ◌*◌, ◌^◌, ◌<◌, ◌≤◌, ◌==◌, Bool, true, false, cond, ◌||◌, List, [], ◌∷◌, map as map_list, length, refl, sym, ap, subst, ◌∙◌, arith, inl, inr, eq-eqb}
-use Rattle.std.specs.Prelude.{Option, Some, None, ◌⊎◌, ◌&&◌, not, nat_le, IsTrue, if◌then◌else◌}
+use Rattle.std.proofs.Common.{◌≡◌, ◌≢◌, ℕ, suc, ◌<◌, ◌==◌, Bool, true, false, cond, ◌||◌, List, [], ◌∷◌, map as map_list, length, refl, sym, ap, subst, ◌∙◌, arith, inl, inr, eq-eqb}
+use Rattle.std.specs.Prelude.{Some, None, ◌⊎◌, ◌&&◌, not, nat_le, IsTrue, if◌then◌else◌}
 use Rattle.std.specs.List.{All, AllByRecursion, flat_map, list_any, list_all, slice_get}
 use Rattle.std.specs.List.Sorted.{IsStrictlySortedBy}
 use Rattle.std.specs.Ordering.{nat_cmp, eq_by_cmp, is_eq, ordering_reverse}
@@ -17,7 +17,7 @@ use Rattle.f2_dentry_block.specs.Packed.{names_of, packed_blocks, HasNameLength,
 use Rattle.f2_dentry_block.proofs.PackedBlocks.{length-packed_blocks}
 use Rattle.f2_dentry_block.proofs.ReadBack.{ReadsBack, packed-reads_back}
 use Rattle.f2_format.specs.Dentry.{Dentry, dentries_of, dentry_fault, REGULAR_TYPE, DIRECTORY_TYPE}
-use Rattle.f2_format.specs.Geometry.{Extent, IsGeometry, nid_limit}
+use Rattle.f2_format.specs.Geometry.{Extent, IsGeometry}
 use Rattle.f2_format.specs.Offsets.{inode_pages}
 use Rattle.f2_format.specs.Packing.{blocks_of_names}
 use Rattle.f2_image.specs.Images.{Image}

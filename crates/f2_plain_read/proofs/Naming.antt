@@ -1,6 +1,6 @@
 -- The rows of a tree under their names.
-use Rattle.std.proofs.Common.{◌≡◌, ◌≢◌, ℕ, ◌+◌, ◌<◌, ◌≤◌, Bool, true, false, List, [], refl, sym, ap, subst, ◌∙◌, arith, inl, inr}
-use Rattle.std.specs.Prelude.{Option, Some, None, ◌⊎◌, nat_lt, if◌then◌else◌, option_map}
+use Rattle.std.proofs.Common.{◌≡◌, ◌≢◌, ℕ, ◌+◌, ◌<◌, ◌≤◌, Bool, refl, sym, ap, ◌∙◌, arith, inl, inr}
+use Rattle.std.specs.Prelude.{Option, Some, None, ◌⊎◌, if◌then◌else◌, option_map}
 use Rattle.std.specs.Ordering.{nat_cmp}
 use Rattle.std.specs.Cmp.{nat_cmp_total}
 use Rattle.std.specs.FinMap as map
@@ -8,13 +8,13 @@ use Rattle.std.specs.FinMap.{nat_cmp-IsAntisymmetric}
 use Rattle.std.proofs.lemmas.Bool.{lt-ltb, cases_lt}
 use Rattle.f2_format.specs.Geometry.{Extent, nid_limit}
 use Rattle.f2_laid.specs.Laid.{PlaceMap, IsStorable}
-use Rattle.f2_laws.proofs.Maps.{get_put, get_put-other, get_taken-other}
+use Rattle.f2_laws.proofs.Maps.{get_taken-other}
 use Rattle.f2_model.specs.Tree.{Rows, ROOT}
 use Rattle.f2_model.specs.declared.rows.Row.{Row}
 use Rattle.f2_plain_read.specs.Building.{bare, up_to, bound_of, bound_below, IsBuilt, IsNamedBy}
 use Rattle.f2_plain_read.specs.declared.built.Built.{Built}
 use Rattle.f2_plain_read.specs.declared.names.Bound.{Bound}
-use Rattle.f2_plain_read.proofs.Building.{put_next, none_next, up_to-in, up_to-past}
+use Rattle.f2_plain_read.proofs.Building.{put_next, up_to-in, up_to-past}
 use Rattle.f2_plain_read.proofs.Standing.{one_some, some_none}
 
 module _ (extent : Extent) (tree : Rows) (stood : PlaceMap) (storable : IsStorable extent tree) (limit : ℕ) (limit_is : limit ≡ nid_limit extent) (built : Built) (is : IsBuilt tree stood limit built) where

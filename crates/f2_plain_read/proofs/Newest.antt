@@ -5,10 +5,9 @@ use Rattle.std.proofs.lemmas.Bool.{ltb-true, ltb-false}
 use Rattle.f2_format.specs.Geometry.{Extent}
 use Rattle.f2_format.specs.Nat.{is_second_copy}
 use Rattle.f2_format.specs.Journal.{journal_count}
-use Rattle.f2_format.specs.Superblock.{super_extent}
 use Rattle.f2_format.specs.Pack.{HeadFields, head_of}
 use Rattle.f2_image.specs.Images.{Image, block_at, IsSized, by_first, by_second}
-use Rattle.f2_image.specs.Packs.{Side, A, B, IsValid, IsNewest, Checkpoint, IsCheckpoint, head_address, summary_address, other_side, GoesBefore}
+use Rattle.f2_image.specs.Packs.{Side, A, B, IsValid, IsNewest, Checkpoint, head_address, summary_address, other_side, GoesBefore}
 use Rattle.f2_image.specs.Faults.{MOST_VERSION}
 use Rattle.f2_model.specs.Tree.{Rows}
 use Rattle.f2_pack.specs.Packs.{IsPackOf, IsValid as pack_valid, newest_of, pack_at, pack_start, value_of}

@@ -1,20 +1,18 @@
 -- How a file of a tree stands in an image that is laid out.
-use Rattle.std.proofs.Common.{◌≡◌, ◌≢◌, ℕ, ◌+◌, ◌<◌, ◌≤◌, ◌==◌, List, length, refl, sym, ap, subst, ◌∙◌, arith, inl, inr}
+use Rattle.std.proofs.Common.{◌≡◌, ◌≢◌, ℕ, ◌<◌, ◌≤◌, List, length, refl, sym, ap, subst, ◌∙◌, arith, inl, inr}
 use Rattle.std.specs.Prelude.{Option, Some, None, ◌⊎◌}
 use Rattle.std.specs.Cmp.{nat_cmp_total}
 use Rattle.std.specs.FinMap as map
 use Rattle.std.specs.FinMap.{nat_cmp-IsAntisymmetric}
 use Rattle.std.proofs.lemmas.Bool.{cases_lt}
 use Rattle.f2_format.specs.Offsets.{inode_pages}
-use Rattle.f2_format.specs.Geometry.{Extent}
 use Rattle.f2_image.specs.Images.{Image, block_at}
 use Rattle.f2_image.specs.Packs.{Checkpoint}
 use Rattle.f2_laws.proofs.Passed.{kinds_differ}
 use Rattle.f2_model.specs.Content.{PageMap}
 use Rattle.f2_model.specs.Tree.{Rows}
 use Rattle.f2_model.specs.declared.rows.Row.{Row}
-use Rattle.f2_model.specs.declared.rows.Kind.{Kind}
-use Rattle.f2_model.specs.declared.rows.Kind.TheVariants.{Regular, Directory}
+use Rattle.f2_model.specs.declared.rows.Kind.TheVariants.{Regular}
 use Rattle.f2_laid.specs.Laid.{PlaceMap, at_of, page_at, page_in, IsInodeOf, IsLaidAt, HoldsContent, file, directory}
 use Rattle.f2_laid.specs.declared.places.Place.{Place}
 use Rattle.f2_laid.specs.declared.stored.Stored.{Stored}

@@ -1,10 +1,10 @@
 -- Disks that tell what they hold, and values that are equal.
-use Rattle.std.proofs.Common.{◌≡◌, Bool, true, false, refl, sym, ap, ◌∙◌, subst}
+use Rattle.std.proofs.Common.{◌≡◌, true, false, refl, sym, ap, ◌∙◌, subst}
 use Rattle.std.specs.Prelude.{Option, Some, None, is_some, Result, Ok, Err}
 use Rattle.std.specs.Option.{IfSome}
 use Rattle.std.specs.Result.{IsErrAnd}
 use Rattle.f2_disk.specs.Contents.{Contents, latest}
-use Rattle.f2_disk.specs.Meter.{Meter, HasFailed}
+use Rattle.f2_disk.specs.Meter.{Meter}
 use Rattle.f2_disk.proofs.MeterLaws.{within_none, within_then}
 use Rattle.f2_image.specs.Images.{Image}
 use Rattle.f2_plain_read.specs.Told.{Tells, OnlyReads}

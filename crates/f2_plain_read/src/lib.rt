@@ -20,6 +20,8 @@ mod names;
 mod point;
 mod reading;
 mod table;
+#[cfg(test)]
+mod tests;
 
 pub use faults::ReadFault;
 pub use reading::{Found, read};

@@ -4,7 +4,7 @@ use Rattle.std.proofs.lemmas.Bool.{leb-true, le-leb}
 use Rattle.f2_bitset.specs.Numbers.{Numbers}
 use Rattle.f2_plain_read.specs.Keeping.{AreKeptBelow}
 use Rattle.f2_plain_read.proofs.Taking.{Taken}
-use Rattle.f2_plain_read.proofs.Keeping.{kept_nothing, kept_next, kept_none, kept_all, few_enough, free_node, new_pages}
+use Rattle.f2_plain_read.proofs.Keeping.{kept_nothing, kept_next, kept_none, kept_all, few_enough}
 use Rattle.f2_plain_read.proofs.kept.is_kept.Goals as goal
 use Rattle.f2_plain_read.proofs.kept.is_kept.Goals.{in-Some+else-not-take_node+else-not-take_pages, in_default, then-len-cn, else-len-cn}
 

@@ -1,5 +1,4 @@
-use Rattle.std.proofs.Common.{◌≡◌, ◌+◌, ◌<◌, ℕ, length, ◌∙◌, ap, sym, subst, refl, arith}
-use Rattle.std.specs.FinSet as set
+use Rattle.std.proofs.Common.{◌+◌, ◌<◌, length, ◌∙◌, ap, sym, subst, refl, arith}
 use Rattle.f2_bitset.specs.Numbers.{Numbers}
 use Rattle.f2_plain_read.specs.Keeping.{AreTaken}
 use Rattle.f2_plain_read.proofs.Taking.{Taken, new_zero, taken_zero, new_more, taken_more}

@@ -1,5 +1,4 @@
-use Rattle.std.proofs.Common.{◌≡◌, ◌∙◌, ap, sym, arith, subst}
-use Rattle.f2_format.specs.Geometry.{Extent}
+use Rattle.std.proofs.Common.{◌∙◌}
 use Rattle.f2_plain_calls.proofs.Results.{ok_after}
 use Rattle.f2_plain_read.specs.Reads.{IsLaidOut, HasNoneLaid, IsAllLaidIn}
 use Rattle.f2_plain_read.proofs.Telling.{telling, tells_on, fault_came}
