@@ -120,6 +120,11 @@ module _ {A X : Type 0} (es : List (ℕ × A)) (f : A → X) (m : FinMap nat_cmp
       lookup-shown f _ fs ∙ ap (option_map f) (h q) ∙ option_map-cond f _ (Some v) _
       ∙ ap (cond (is_at (nat_cmp k) q) (Some (f v))) (sym (lookup-shown f _ es)))
 
+  pub shown_seen-remove : (fs : List (ℕ × A)) (k : ℕ) → ((q : ℕ) → lookup (is_at (nat_cmp q)) fs ≡ cond (is_at (nat_cmp k) q) None (lookup (is_at (nat_cmp q)) es)) → from_entries (shown f fs) ≡ finite.remove m k
+  shown_seen-remove fs k h = seen-remove (shown f es) m seen (shown f fs) k (λ q.
+      lookup-shown f _ fs ∙ ap (option_map f) (h q) ∙ option_map-cond f _ None _
+      ∙ ap (cond (is_at (nat_cmp k) q) None) (sym (lookup-shown f _ es)))
+
   -- entries whose keys pass a test
   pub shown_seen-retain_keys : (fs : List (ℕ × A)) (p : ℕ → Bool) → fs ≡ where_key nat_cmp p es → from_entries (shown f fs) ≡ finite.retain_keys m p
   shown_seen-retain_keys fs p h =

@@ -12,7 +12,7 @@ use Rattle.f2_model.specs.State.{State, Mark, Mode, Shut, Mounting, Up, Part, In
 use Rattle.f2_model.specs.Fallback.{fallback, owed, frozen_inos}
 use Rattle.f2_model.specs.declared.rows.Row.{Row}
 use Rattle.f2_model.specs.declared.requests.Request.{Request}
-use Rattle.f2_model.specs.declared.requests.Request.TheVariants.{Create, Mkdir, Write, Truncate, Unlink, Rename, Read, Fsync, Sync}
+use Rattle.f2_model.specs.declared.requests.Request.TheVariants.{Create, Mkdir, Write, Truncate, Unlink, Rename, Fsync, Sync}
 use Rattle.f2_model.specs.declared.replies.Plan.{Plan}
 use Rattle.f2_model.specs.declared.replies.Plan.TheVariants as plan
 use Rattle.f2_model.specs.declared.replies.Begun.{Begun}

@@ -1,7 +1,8 @@
 //! The pages of a file.
-ghost use Rattle.std.specs.Prelude.{◌≡◌, ◌^◌, ◌<◌, OnOk, OnErr, IfOk, nat_lt};
+ghost use Rattle.std.specs.Prelude.{◌≡◌, ◌^◌, ◌<◌, ◌≤◌, OnOk, OnErr, IfOk, IsSome, nat_lt};
 ghost use Rattle.std.specs.FinMap as map;
 ghost use Rattle.std.specs.Option.{option_copied, option_map};
+ghost use Rattle.f2_model.specs.Content.{PAGE, filled, page_of};
 
 use crate::lists::{Items, Numbers};
 use std::alloc::{AllocError, Global};
@@ -10,6 +11,15 @@ use std::marker::Model;
 
 /// The bytes of one block, and of one page.
 pub type Block = [u8; 4096];
+
+/// Puts one byte at each place of a block from one up to another.
+fn fill(content: &mut Block, from: usize, to: usize, byte: u8)
+    requires order { from ≤ to }
+    requires within { to ≤ PAGE }
+    ensures { content.new ≡ filled content.old from to byte }
+{
+    content[from..to].fill(byte);
+}
 
 /// The pages of a file, by their numbers.
 #[derive(Debug, Drop)]
@@ -67,6 +77,25 @@ impl Pages {
         let content = Box::new(self.alloc, *content)?;
         self.pages.insert(page, content)?;
         Ok(())
+    }
+
+    /// Puts one byte at each place of a page from one up to another. The page has to be there; this takes no memory.
+    pub fn fill(&mut self, page: u32, from: usize, to: usize, byte: u8)
+        requires there { IsSome (map.get self.old page) }
+        requires order { from ≤ to }
+        requires within { to ≤ PAGE }
+        ensures { self.new ≡ map.insert self.old page (filled (page_of self.old page) from to byte) }
+    {
+        if let Some(content) = self.pages.get_mut(&page) {
+            fill(content, from, to, byte);
+        }
+    }
+
+    /// Takes a page out, where it is there.
+    pub fn remove(&mut self, page: u32)
+        ensures { self.new ≡ map.remove self.old page }
+    {
+        self.pages.remove(&page);
     }
 
     /// The numbers of all pages, rising.

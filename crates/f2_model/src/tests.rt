@@ -107,3 +107,26 @@ fn requests_are_copied(rt: HostRuntime) -> Result<(), Fail> {
     assert_eq!(rt; pieces.as_slice(), [piece].as_slice());
     Ok(())
 }
+
+#[test]
+fn pages_are_filled_and_taken_out(rt: HostRuntime) -> Result<(), Fail> {
+    let mut pages = Pages::new(rt.alloc());
+    pages.put(2, &TWOS)?;
+    pages.fill(2, 1, 3, 9);
+    let page = pages.get(2).ok_or("page 2")?;
+    assert_eq!(rt; &page[..4], [2, 9, 9, 2].as_slice());
+    pages.remove(2);
+    assert_eq!(rt; pages.len(), 0);
+    Ok(())
+}
+
+#[test]
+fn rows_are_replaced(rt: HostRuntime) -> Result<(), Fail> {
+    let mut tree = Tree::new(rt.alloc());
+    tree.put(row(rt.alloc(), 9, b"old")?)?;
+    let old = tree.replace(row(rt.alloc(), 9, b"new")?).ok();
+    assert_eq!(rt; old.ok_or("a row")?.name.as_slice(), b"old".as_slice());
+    assert!(rt; tree.replace(row(rt.alloc(), 4, b"none")?).is_err());
+    assert_eq!(rt; tree.len(), 1);
+    Ok(())
+}

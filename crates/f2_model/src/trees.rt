@@ -1,5 +1,5 @@
 //! The file tree.
-ghost use Rattle.std.specs.Prelude.{◌≡◌, ◌^◌, ◌<◌, length, OnOk, OnErr, IfOk};
+ghost use Rattle.std.specs.Prelude.{◌≡◌, ◌^◌, ◌<◌, Some, None, length, OnOk, OnErr, IfOk, IfErr};
 ghost use Rattle.std.specs.FinMap as map;
 ghost use Rattle.std.specs.Map.Iter.{ShowsInOrder, deref};
 ghost use Rattle.std.specs.Option.{option_copied};
@@ -10,6 +10,7 @@ use std::alloc::{AllocError, Global};
 use std::collections::BTreeMap;
 use std::collections::btree_map::Values;
 use std::marker::Model;
+use std::mem;
 
 /// The rows of a volume, by their inos.
 #[derive(Debug, Drop)]
@@ -67,6 +68,18 @@ impl Tree {
     {
         self.rows.insert(row.ino, row)?;
         Ok(())
+    }
+
+    /// Puts a row in the place of the one at its ino, which it gives back; where there is none, the row comes back and
+    /// the tree stays as it was. Takes no memory.
+    pub fn replace(&mut self, row: Row) -> Result<Row, Row>
+        ensures ok { IfOk result (λ old. (map.get self.old row.ino ≡ Some old) × (self.new ≡ map.insert self.old row.ino row)) }
+        ensures err { IfErr result (λ back. (back ≡ row) × (map.get self.old row.ino ≡ None) × (self.new ≡ self.old)) }
+    {
+        match self.rows.get_mut(&row.ino) {
+            Some(place) => Ok(mem::replace(place, row)),
+            None => Err(row),
+        }
     }
 
     /// Takes the row of an ino out, and answers it; `None` where there is none.
