@@ -55,7 +55,7 @@ fn fill(page: &mut Block, from: usize, to: usize, byte: u8)
 }
 
 /// The pages that a piece reaches: the first of them, and the one behind the last.
-pub(crate) fn pages_of_piece(piece: &Piece) -> (u32, u32)
+pub fn pages_of_piece(piece: &Piece) -> (u32, u32)
     requires { end_of piece.now ≤ MOST_SIZE }
     ensures pages { pages_of_piece piece.now ≡ range_with_len result.0 (result.1 - result.0) }
     ensures reached { (page : ℕ) → result.0 ≤ page → page < result.1 → Reaches piece.now page }
@@ -107,7 +107,7 @@ pub(crate) fn put_pieces(pages: &mut Pages, pieces: &[Piece]) -> Result<(), Allo
 }
 
 /// The end of the piece that reaches furthest, or the size where that is greater.
-pub(crate) fn raised_size(size: u64, pieces: &[Piece]) -> u64
+pub fn raised_size(size: u64, pieces: &[Piece]) -> u64
     requires { All (λ piece. end_of piece ≤ MOST_SIZE) pieces.now }
     ensures { result ≡ raised_size size pieces.now }
 {
