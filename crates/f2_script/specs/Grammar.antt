@@ -53,12 +53,13 @@ SaysNothing (b ∷ text) = b ≡ 35
 abbrev pub IsLine : List ℕ → Line → Type 0
 IsLine text line = (SaysNothing text × (line ≡ Skipped)) ⊎ IsSaid (split_words text) line
 
--- the lines that each grammar takes: `Replay` has no other calls than creates and syncs so far; `Plain` plans no
+-- the lines that each grammar takes: `Replay` has no other calls than creates, writes and syncs so far; `Plain` plans no
 -- failures, and its crashes keep either all that was written or as little as they may
 abbrev pub takes : Grammar → Line → Bool
 takes Whole _ = true
 takes Replay (Mkfs blocks nat) = true
 takes Replay (Call seat (Create path)) = true
+takes Replay (Call seat (Write path pieces)) = true
 takes Replay (Call seat Sync) = true
 takes Replay (Crash pick) = true
 takes Replay Mount = true

@@ -53,7 +53,7 @@ fn is_taken(grammar: Grammar, line: &Line) -> bool
             line,
             Line::Mkfs { .. }
                 | Line::Call {
-                    request: Request::Create { .. } | Request::Sync,
+                    request: Request::Create { .. } | Request::Write { .. } | Request::Sync,
                     ..
                 }
                 | Line::Crash { .. }

@@ -11,7 +11,7 @@ use thiserror::Error;
 pub enum Grammar {
     /// Every line.
     Whole,
-    /// The lines that the command `replay` takes so far: creates, syncs, crashes, mounts and trees.
+    /// The lines that the command `replay` takes so far: creates, writes, syncs, crashes, mounts and trees.
     Replay,
     /// The lines of the plain machine, which has no disk: it plans no failure, and a crash picks either all that
     /// was written or as little as it may.
