@@ -10,8 +10,6 @@ mod holding;
 mod owing;
 mod reasons;
 mod recovering;
-#[cfg(test)]
-mod tests;
 
 pub use boths::Both;
 pub use holding::held;

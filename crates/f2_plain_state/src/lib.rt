@@ -18,8 +18,6 @@ mod modes;
 mod mounts;
 mod pairs;
 mod plain;
-#[cfg(test)]
-mod tests;
 mod writes;
 
 pub use calls::Call;
