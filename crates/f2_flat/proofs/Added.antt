@@ -1,0 +1,52 @@
+-- What a create comes to, step by step.
+use Rattle.std.proofs.Common.{◌≡◌, inr, ℕ, ◌+◌, ◌≤◌, ◌<◌, List, sym, ap, ◌∙◌, subst}
+use Rattle.std.specs.Prelude.{Option, Some, None, Ok}
+use Rattle.std.specs.FinMap as map
+use Rattle.f2_format.specs.Geometry.{Extent, IsGeometry, node_third, data_third}
+use Rattle.f2_model.specs.Tree.{Rows, ROOT, last_name}
+use Rattle.f2_model.specs.Count.{data_of_tree}
+use Rattle.f2_model.specs.declared.replies.Reply.{Reply}
+use Rattle.f2_model.specs.declared.replies.Space.TheVariants.{Node, Data}
+use Rattle.f2_flat.specs.Flat.{IsFlat}
+use Rattle.f2_flat.specs.Calls.{IsAdded, IsKeptOut}
+use Rattle.f2_flat.specs.Kept.{HasRootFiles}
+use Rattle.f2_flat.specs.Steps.{MakesPlace, told_beyond, with_file}
+use Rattle.f2_flat.proofs.Grown.{next_free, files_grown, nodes_spent, space_told, flat_grown, added}
+use Rattle.f2_flat.proofs.Told.{told_some, some_past, none_within}
+
+module _ (extent : Extent) (geometry : IsGeometry extent) (tree : Rows) (flat : IsFlat extent tree) (path : List (List ℕ)) (name : List ℕ) (place : MakesPlace extent tree path (Ok name)) (rows nodes : ℕ) (rows_is : rows ≡ map.len tree) (nodes_is : nodes ≡ node_third extent) where
+  -- no node is left
+  pub node_out : (refused : Reply) → Some refused ≡ told_beyond Node (rows + 1) nodes → IsKeptOut extent tree path refused
+  node_out refused told =
+      let same : told_beyond Node (rows + 1) nodes ≡ told_beyond Node (map.len tree + 1) (node_third extent) = λ i. told_beyond Node (rows_is i + 1) (nodes_is i) in
+      let full : node_third extent < map.len tree + 1 = some_past Node (map.len tree + 1) (node_third extent) refused (told ∙ same) in
+      inr (place.0, nodes_spent extent geometry tree flat path place.0 full ∙ sym (told_some Node (map.len tree + 1) (node_third extent) full) ∙ sym same ∙ sym told)
+
+  abbrev grew : Rows
+  grew = with_file tree (rows + ROOT) name
+
+  grew_is : grew ≡ with_file tree (map.len tree + ROOT) (last_name path)
+  grew_is = λ i. with_file tree (rows_is i + ROOT) (place.1 i)
+
+  pub next_is_free : map.get tree (rows + ROOT) ≡ None
+  next_is_free = ap (λ n. map.get tree (n + ROOT)) rows_is ∙ next_free extent geometry tree flat
+
+  pub files_more : HasRootFiles grew
+  files_more = subst HasRootFiles (sym grew_is) (files_grown extent geometry tree flat path place.0 (map.len tree + ROOT) (next_free extent geometry tree flat))
+
+  module _ (room : told_beyond Node (rows + 1) nodes ≡ None) (blocks : ℕ) (blocks_is : blocks ≡ data_third extent) (told : Option Reply) (told_is : told ≡ told_beyond Data (data_of_tree grew) blocks) where
+    fits : map.len tree + 1 ≤ node_third extent
+    fits = none_within Node (map.len tree + 1) (node_third extent) ((λ i. told_beyond Node (sym rows_is i + 1) (sym nodes_is i)) ∙ room)
+
+    due : told_beyond Data (data_of_tree (with_file tree (map.len tree + ROOT) (last_name path))) (data_third extent) ≡ told
+    due = (λ i. told_beyond Data (data_of_tree (sym grew_is i)) (sym blocks_is i)) ∙ sym told_is
+
+    -- no data block is left
+    pub data_out : (refused : Reply) → told ≡ Some refused → IsKeptOut extent tree path refused
+    data_out refused some = inr (place.0, space_told extent geometry tree flat path place.0 fits ∙ due ∙ some)
+
+    pub row_added : (new : Rows) → told ≡ None → new ≡ grew → IsAdded extent tree new path (rows + ROOT)
+    row_added new none is = added extent geometry tree flat path place.0 fits (due ∙ none) new (rows + ROOT) (ap (λ n. n + ROOT) rows_is) (is ∙ grew_is)
+
+    pub flat_added : (new : Rows) → told ≡ None → new ≡ grew → IsFlat extent new
+    flat_added new none is = subst (IsFlat extent) (sym (is ∙ grew_is)) (flat_grown extent geometry tree flat path place.0 fits (due ∙ none))

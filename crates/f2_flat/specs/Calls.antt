@@ -1,0 +1,46 @@
+-- What taking a tree, adding a file and writing into one come to.
+use Rattle.std.specs.Prelude.{◌≡◌, ◌⊎◌, ℕ, ◌+◌, ◌≤◌, List, Option, Some, None, Result, MatchResult}
+use Rattle.std.specs.FinMap as map
+use Rattle.f2_format.specs.Geometry.{Extent, node_third}
+use Rattle.f2_model.specs.Tree.{Rows, ROOT}
+use Rattle.f2_model.specs.Call.{effect, outcome, refusal, space_refusal}
+use Rattle.f2_model.specs.declared.replies.Reply.{Reply}
+use Rattle.f2_model.specs.declared.requests.Piece.{Piece}
+use Rattle.f2_model.specs.declared.requests.Request.TheVariants.{Create, Write}
+use Rattle.f2_flat.specs.Flat.{IsFlat, limits_of}
+
+-- a tree was taken as it is, which is flat, or it was refused, and isn't
+abbrev pub TakesFlat : Extent → Rows → Option Rows → Type 0
+TakesFlat extent tree (Some taken) = (taken ≡ tree) × IsFlat extent tree
+TakesFlat extent tree None = ¬ (IsFlat extent tree)
+
+-- the tree after a call that makes a file under an ino
+abbrev pub grown : Rows → List (List ℕ) → ℕ → Rows
+grown tree path ino = effect tree (Create path) ino
+
+-- why a file wasn't added: a refusal by its path, or want of space
+abbrev pub IsKeptOut : Extent → Rows → List (List ℕ) → Reply → Type 0
+IsKeptOut extent tree path refused =
+    (refusal (limits_of extent) tree (Create path) ≡ Some refused)
+    ⊎ ((refusal (limits_of extent) tree (Create path) ≡ None) × (space_refusal (limits_of extent) (grown tree path (limits_of extent).nids) ≡ Some refused))
+
+-- a file was added under this number, the one after the tree's last
+pub record IsAdded (extent : Extent) (old new : Rows) (path : List (List ℕ)) (ino : ℕ) : Type 0 where
+  pub none : refusal (limits_of extent) old (Create path) ≡ None
+  pub space : space_refusal (limits_of extent) (grown old path (limits_of extent).nids) ≡ None
+  pub next : ino ≡ map.len old + ROOT
+  pub fits : map.len old + 1 ≤ node_third extent
+  pub tree : new ≡ grown old path ino
+
+-- a file was added, or it was kept out and the tree stays, as it does where memory is refused
+abbrev pub AddsFile : {E : Type 0} → Extent → Rows → Rows → List (List ℕ) → Result (Result ℕ Reply) E → Type 0
+AddsFile extent old new path result = MatchResult result
+    (λ told. MatchResult told (IsAdded extent old new path) (λ refused. IsKeptOut extent old path refused × (new ≡ old)))
+    (λ _. new ≡ old)
+
+-- a write came to the reply and the tree that are due, or memory was refused and the tree stays; no number is given to a
+-- row, so the one past the last stands for it
+abbrev pub WritesFile : {E : Type 0} → Extent → Rows → Rows → List (List ℕ) → List Piece → Result Reply E → Type 0
+WritesFile extent old new path pieces result = MatchResult result
+    (λ told. (told, new) ≡ outcome (limits_of extent) old (Write path pieces) (limits_of extent).nids)
+    (λ _. new ≡ old)
