@@ -14,7 +14,8 @@ use Rattle.f2_model.specs.declared.rows.Row.{Row}
 use Rattle.f2_image.specs.Meanings.{IsLeft, IsSafe}
 use Rattle.f2_laid.specs.Laid.{root_alone}
 use Rattle.f2_laid.specs.declared.stored.Stored.{Stored}
-use Rattle.f2_core.specs.Seen.{Seen, IsFlat, IsHeld, IsIn, Knows, mode_of, limits_of}
+use Rattle.f2_flat.specs.Flat.{IsFlat, limits_of}
+use Rattle.f2_core.specs.Seen.{Seen, IsHeld, IsIn, Knows, mode_of}
 use Rattle.f2_core.specs.Events.{StandsFor, IsShort, MOST_LEFT, GoesTo, ComesTo}
 use Rattle.f2_core.specs.declared.volumes.Volume.{Volume}
 use Rattle.f2_core.proofs.Held.{means, left-alone, held-storable}
@@ -34,7 +35,7 @@ pub record IsAt (extent : Extent) (told : Option Contents) (volume : Option Volu
   pub logged : state.logged ≡ set.empty
   pub count : state.entries ≡ entries
   pub flat : IsFlat extent state.base
-  pub older : (ino : ℕ) (row : Row) → map.get state.base ino ≡ Some row → IfSome volume (λ (opened : Volume). ino < map.len opened.tree + ROOT)
+  pub older : (ino : ℕ) (row : Row) → map.get state.base ino ≡ Some row → IfSome volume (λ (opened : Volume). ino < map.len opened.files + ROOT)
   pub stored : Stored
   pub version : stored.version ≤ entries + 1
   pub known : IfSome volume (Knows state stored)

@@ -6,7 +6,8 @@ use Rattle.f2_disk.specs.Contents.{Contents, flushed, latest}
 use Rattle.f2_model.specs.Tree.{Rows}
 use Rattle.f2_laid.specs.Laid.{IsLaid}
 use Rattle.f2_laid.specs.declared.stored.Stored.{Stored}
-use Rattle.f2_core.specs.Seen.{IsFlat, IsHeld}
+use Rattle.f2_flat.specs.Flat.{IsFlat}
+use Rattle.f2_core.specs.Seen.{IsHeld}
 use Rattle.f2_core.specs.Found.{FindsHeld, NoneIsHeld, StaysHeld}
 use Rattle.f2_plain_read.specs.Reads.{IsAllLaidIn, HasNoneLaid}
 use Rattle.f2_core.specs.declared.volumes.Volume.{Volume}
@@ -26,7 +27,7 @@ on_ok (Err e) none p = absurd (true≢false none)
 flushed_laid : (extent : Extent) (lists : Contents) (base : Rows) (stored : Stored) → IsHeld extent lists base stored → IsLaid (latest (flushed lists)) base stored
 flushed_laid extent lists base stored held = subst (λ l. IsLaid (latest l) base stored) (sym (held-flushed extent lists base stored held)) (held-laid extent lists base stored held)
 
-pub finds : (extent : Extent) (was now : Option Contents) (tree : Rows) (stored : Stored) → now ≡ option_map flushed was → IfSome now (λ lists. IsAllLaidIn (latest lists) tree stored) → FindsHeld extent was (record { tree = tree; stored = stored })
+pub finds : (extent : Extent) (was now : Option Contents) (tree : Rows) (stored : Stored) → now ≡ option_map flushed was → IfSome now (λ lists. IsAllLaidIn (latest lists) tree stored) → FindsHeld extent was (record { files = tree; stored = stored })
 finds extent None now tree stored is found = tt
 finds extent (Some lists) now tree stored is found = λ base other flat held.
     let at = subst (λ o. IfSome o (λ l. IsAllLaidIn (latest l) tree stored)) is found in
@@ -39,7 +40,7 @@ finds_none extent (Some lists) now is none = λ base stored flat version held.
     at base stored (held-storable extent lists base stored held flat) version (flushed_laid extent lists base stored held)
 
 -- what was found can't be the tree of a disk that holds one, where it isn't flat or has other sizes
-pub finds_other : (extent : Extent) (was : Option Contents) (volume : Volume) → FindsHeld extent was volume → (IsFlat extent volume.tree → volume.stored.geometry ≡ extent → ⊥) → NoneIsHeld extent was
+pub finds_other : (extent : Extent) (was : Option Contents) (volume : Volume) → FindsHeld extent was volume → (IsFlat extent volume.files → volume.stored.geometry ≡ extent → ⊥) → NoneIsHeld extent was
 finds_other extent None volume found other = tt
 finds_other extent (Some lists) volume found other = λ base stored flat version held.
     let same = found base stored flat held in

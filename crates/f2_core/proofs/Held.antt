@@ -11,7 +11,8 @@ use Rattle.f2_laid.specs.declared.stored.Stored.{Stored}
 use Rattle.f2_laid_laws.proofs.Base.{IsStored, is_base}
 use Rattle.f2_laid_laws.proofs.NoLog.{no_marks}
 use Rattle.f2_laid_laws.proofs.Sound.{sound, clean}
-use Rattle.f2_core.specs.Seen.{IsFlat, IsHeld}
+use Rattle.f2_flat.specs.Flat.{IsFlat}
+use Rattle.f2_core.specs.Seen.{IsHeld}
 use Rattle.f2_core.proofs.FlatTrees.{storable}
 
 pub means : LaidImagesMean

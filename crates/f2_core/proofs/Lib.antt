@@ -1,6 +1,5 @@
 -- Lemmas that several proofs share.
-pub mod Values
-pub mod PlainTrees
+pub mod Empty
 pub mod FlatTrees
 pub mod Refusals
 pub mod Grown
@@ -12,7 +11,8 @@ pub mod Crashes
 pub mod Made
 pub mod Finding
 pub mod Unchanged
-pub mod Creates
+pub mod Changed
+pub mod Changing
 pub mod Saved
 pub mod Mounted
 pub mod ComeTo

@@ -1,21 +1,29 @@
 -- A core that was just made.
-use Rattle.std.proofs.Common.{◌≡◌, ◌≢◌, ◌⊎◌, inl, inr, ℕ, ◌+◌, cond, List, [], refl, sym, ap, ◌∙◌, subst, arith, lit≤}
+use Rattle.std.proofs.Common.{◌≡◌, ◌≢◌, ◌⊎◌, inl, inr, ℕ, ◌+◌, ◌*◌, ◌≤◌, cond, List, [], map as map_list, refl, sym, ap, ◌∙◌, subst, arith, lit≤}
 use Rattle.std.specs.Prelude.{Option, Some, None, IfSome, is_some, IsSome}
+use Rattle.std.specs.List.{sum_by}
 use Rattle.std.specs.Ordering.{nat_cmp}
 use Rattle.std.specs.Cmp.{nat_cmp_total}
 use Rattle.std.specs.FinMap as map
-use Rattle.f2_format.specs.Geometry.{Extent, IsGeometry}
+use Rattle.f2_format.specs.Geometry.{Extent, IsGeometry, data_third, node_third}
 use Rattle.f2_disk.specs.Contents.{Contents, WhereTold}
 use Rattle.f2_model.specs.Tree.{ROOT, IsGoodTree, HasGoodPages}
+use Rattle.f2_model.specs.Count.{data_of_row, data_of_tree, dentry_blocks}
 use Rattle.f2_model.specs.State.{initial}
 use Rattle.f2_model.specs.History.{History}
 use Rattle.f2_model.specs.declared.rows.Row.{Row}
 use Rattle.f2_laws.proofs.Maps.{get_put}
+use Rattle.f2_laws.proofs.NewRows.{inserted_sum}
 use Rattle.f2_laws.proofs.Places.{put_or_other}
 use Rattle.f2_laid.specs.Laid.{root_row, root_alone}
 use Rattle.f2_laid.specs.declared.stored.Stored.{Stored}
-use Rattle.f2_core.specs.Seen.{IsFlat, IsHeld, IsIn, FILE_SIZE}
+use Rattle.f2_core.proofs.Empty.{entries-empty}
+use Rattle.f2_core.proofs.FlatTrees.{data_third_large}
 use Rattle.f2_plain_save.specs.Saves.{IsMade}
+use Rattle.f2_flat.specs.Flat.{IsFlat, FILE_SIZE}
+use Rattle.f2_flat.specs.Kept.{HasRootFiles}
+use Rattle.f2_flat.proofs.Trees.{blocks_few}
+use Rattle.f2_core.specs.Seen.{IsHeld, IsIn}
 
 root_there : map.get root_alone ROOT ≡ Some root_row
 root_there = get_put map.empty ROOT root_row
@@ -57,10 +65,32 @@ length-root =
     ∙ ap (λ o. cond (is_some o) (map.len (map.empty {K = ℕ} {X = Row} {R = nat_cmp})) (map.len (map.empty {K = ℕ} {X = Row} {R = nat_cmp}) + 1)) (map.get-empty nat_cmp ROOT)
     ∙ ap (λ n. n + 1) (map.len-empty nat_cmp Row)
 
+-- it takes at most a data block
+root_files : HasRootFiles root_alone
+root_files = record {
+  good = root_good;
+  few = (let one = length-root in omega (arith, one));
+  files = λ ino row there other. absurd (other (only ino row there).0);
+}
+
+root_data : data_of_tree root_alone ≤ 1
+root_data =
+    let f = data_of_row (map.values root_alone) in
+    let sum : data_of_tree root_alone ≡ dentry_blocks (map.values root_alone) ROOT + sum_by f (map.values (map.empty {K = ℕ} {X = Row} {R = nat_cmp})) =
+    inserted_sum map.empty ROOT root_row (map.get-empty nat_cmp ROOT) f in
+    let none : sum_by f (map.values (map.empty {K = ℕ} {X = Row} {R = nat_cmp})) ≡ 0 = ap (λ (es : List (ℕ × Row)). sum_by f (map_list (λ e. e.1) es)) entries-empty in
+    let few = blocks_few root_alone root_files ROOT in
+    let one = length-root in
+    omega (arith, sum, none, few, one)
+
+some_room : (third room : ℕ) → 4 ≤ third → 3 * third ≤ room → 1 ≤ room
+some_room third room zones large = omega (arith, zones, large)
+
 pub root_flat : (extent : Extent) → IsGeometry extent → IsFlat extent root_alone
 root_flat extent geometry = record {
   good = root_good;
   fits = (let zones = geometry.zones in let one = length-root in omega (arith, zones, one));
+  room = (let taken = root_data in let some = some_room (node_third extent) (data_third extent) geometry.zones (data_third_large extent) in omega (arith, taken, some));
   dense = λ ino row there.
       let at : ino ≡ 3 = (only ino row there).0 in
       let one = length-root in

@@ -9,7 +9,8 @@ use Rattle.f2_model.specs.Step as machine
 use Rattle.f2_model.specs.Step.{Mount}
 use Rattle.f2_model.specs.History.{History}
 use Rattle.f2_laid.specs.declared.stored.Stored.{Stored}
-use Rattle.f2_core.specs.Seen.{IsFlat, IsHeld, IsIn}
+use Rattle.f2_flat.specs.Flat.{IsFlat}
+use Rattle.f2_core.specs.Seen.{IsHeld, IsIn}
 use Rattle.f2_core.specs.Events.{ComesTo, refusal_of}
 use Rattle.f2_core.specs.Found.{FindsHeld, StaysHeld}
 use Rattle.f2_core.specs.declared.events.MountFault.{MountFault}
@@ -37,7 +38,7 @@ still_told extent (Some lists) now base stored tells held stays = stays base sto
 
 -- and its tree is found
 pub found_is : (extent : Extent) (was : Option Contents) (base : Rows) (stored : Stored) (volume : Volume) → IsSome was → IsFlat extent base → IfSome was (λ lists. IsHeld extent lists base stored) → FindsHeld extent was volume
-    → (volume.tree ≡ base) × (volume.stored ≡ stored)
+    → (volume.files ≡ base) × (volume.stored ≡ stored)
 found_is extent None base stored volume tells flat held found = absurd (cc)
 found_is extent (Some lists) base stored volume tells flat held found = found base stored flat held
 

@@ -1,44 +1,21 @@
--- The refusals of a create, test by test.
-use Rattle.std.proofs.Common.{◌≡◌, ◌≢◌, ℕ, Bool, true, false, not, List, [], ◌∷◌, Option, Some, None, Result, Ok, Err, is_ok, MatchResult, refl, ap, sym}
+-- No refusal of a call that changes files is a fault of the disk.
+use Rattle.std.proofs.Common.{◌≡◌, ◌≢◌, ℕ, Bool, true, false, List, [], ◌∷◌, Option, Some, None, Result, Ok, Err, refl, ap, ◌∙◌}
 use Rattle.std.specs.Prelude.{if◌then◌else◌, nat_lt}
 use Rattle.std.specs.Bool.{then_some}
 use Rattle.std.specs.FinMap as map
 use Rattle.f2_model.specs.declared.bounds.Limits.{Limits}
-use Rattle.f2_model.specs.Names.{is_good_path}
-use Rattle.f2_model.specs.Tree.{Rows, ROOT, is_directory, child, or_no_entry, walked, walk, parent_path, last_name}
-use Rattle.f2_model.specs.Call.{walk_parent, to_directory, refusal_of, first_refusal, refusal, space_refusal, effect, new_row}
+use Rattle.f2_model.specs.Tree.{Rows, ROOT, is_directory, child, or_no_entry, walked, walk, parent_path}
+use Rattle.f2_model.specs.Call.{walk_parent, to_directory, refusal_of, first_refusal, refusal, space_refusal, has_bad_name, walk_refusal, names_directory, name_is_there, has_entries, is_too_big}
 use Rattle.f2_model.specs.Count.{nodes_of_tree, data_of_tree}
 use Rattle.f2_model.specs.Step.{replied}
 use Rattle.f2_model.specs.declared.rows.Row.{Row}
-use Rattle.f2_model.specs.declared.rows.Kind.TheVariants.{Regular}
-use Rattle.f2_model.specs.declared.requests.Request.TheVariants.{Create}
+use Rattle.f2_model.specs.declared.requests.Request.{Request}
+use Rattle.f2_model.specs.declared.requests.Request.TheVariants.{Create, Write}
 use Rattle.f2_model.specs.declared.replies.Reply.{Reply}
 use Rattle.f2_model.specs.declared.replies.Reply.TheVariants.{Done, Bytes, Names, Roll, Cp, Synced, Closed, Spent, Busy, BadName, NoEnt, NotDir, IsDir, Exists, NotEmpty, TooBig, NoSpace, ReadFault, WriteFault, Memory}
 use Rattle.f2_model.specs.declared.replies.Space.TheVariants.{Node, Data}
+use Rattle.f2_core.specs.Changes.{IsChange}
 use Rattle.f2_core.specs.Events.{TellsFault}
-
-module _ (limits : Limits) (tree : Rows) (path : List (List ℕ)) where
-  pub refusal-bad : is_good_path path ≡ false → refusal limits tree (Create path) ≡ Some BadName
-  refusal-bad bad = rw bad refl
-
-  pub refusal-stopped : (refused : Reply) → is_good_path path ≡ true → walk_parent tree path ≡ Err refused → refusal limits tree (Create path) ≡ Some refused
-  refusal-stopped refused good stopped = rw (good, stopped) refl
-
-  pub refusal-there : (up : Row) → is_good_path path ≡ true → walk_parent tree path ≡ Ok up → is_ok (walk tree path) ≡ true → refusal limits tree (Create path) ≡ Some Exists
-  refusal-there up good led there = rw (good, led, there) refl
-
-  pub refusal-none : (up : Row) → is_good_path path ≡ true → walk_parent tree path ≡ Ok up → is_ok (walk tree path) ≡ false → refusal limits tree (Create path) ≡ None
-  refusal-none up good led free = rw (good, led, free) refl
-
-  pub effect-create : (up : Row) (ino directory : ℕ) → walk_parent tree path ≡ Ok up → up.ino ≡ directory → effect tree (Create path) ino ≡ map.insert tree ino (new_row Regular ino directory (last_name path))
-  effect-create up ino directory led is = rw (led, is) refl
-
--- what a walk's answer tells of the walk
-pub is_ok-told : {A B E : Type 0} (now : A → B) (told : Result A E) (walked : Result B E) → MatchResult told (λ row. walked ≡ Ok (now row)) (λ e. walked ≡ Err e) → is_ok told ≡ is_ok walked
-is_ok-told now (Ok row) walked e = ap is_ok (sym e)
-is_ok-told now (Err refused) walked e = ap is_ok (sym e)
-
--- No refusal of a create is a fault of the disk.
 
 same_error : {A : Type 0} (a b : Reply) → ◌≡◌ {A = Result A Reply} (Err a) (Err b) → a ≡ b
 same_error a b e = cc
@@ -79,16 +56,29 @@ parent-refused (Ok row) refused each h = by_kind (is_directory row.kind) h
     by_kind true h = absurd (cc)
     by_kind false h = no_directory refused (same_error NotDir refused h)
 
-pub create-refused : (limits : Limits) (tree : Rows) (path : List (List ℕ)) (refused : Reply) → refusal limits tree (Create path) ≡ Some refused → refused ≢ WriteFault
-create-refused limits tree path refused h =
-    by_name (not (is_good_path path)) (walk_parent tree path) (λ r. parent-refused (walk tree (parent_path path)) r (walk-refused tree (parent_path path))) (is_ok (walk tree path)) h
-  where
-    by_name : (bad : Bool) (led : Result Row Reply) → ((r : Reply) → led ≡ Err r → r ≢ WriteFault) → (there : Bool)
-        → first_refusal (then_some bad BadName ∷ refusal_of led ∷ None ∷ then_some there Exists ∷ None ∷ None ∷ []) ≡ Some refused → refused ≢ WriteFault
-    by_name true led each there h = λ same. let is : BadName ≡ refused = same_refusal BadName refused h in let bad : BadName ≡ WriteFault = cc in cc
-    by_name false (Err r) each there h = let is : r ≡ refused = same_refusal r refused h in each refused (ap (λ e. Err e) is)
-    by_name false (Ok up) each true h = λ same. let is : Exists ≡ refused = same_refusal Exists refused h in let bad : Exists ≡ WriteFault = cc in cc
-    by_name false (Ok up) each false h = absurd (cc)
+-- the tests of a call in order, of which only the walk tells a refusal of its own
+first-refused : (bad : Bool) (walks : Option Reply) (directory there entries big : Bool) (refused : Reply) → ((r : Reply) → walks ≡ Some r → r ≢ WriteFault)
+    → first_refusal (then_some bad BadName ∷ walks ∷ then_some directory IsDir ∷ then_some there Exists ∷ then_some entries NotEmpty ∷ then_some big TooBig ∷ []) ≡ Some refused → refused ≢ WriteFault
+first-refused true walks directory there entries big refused each h = λ same. let bad : BadName ≡ WriteFault = same_refusal BadName refused h ∙ same in cc
+first-refused false (Some r) directory there entries big refused each h = each refused h
+first-refused false None true there entries big refused each h = λ same. let bad : IsDir ≡ WriteFault = same_refusal IsDir refused h ∙ same in cc
+first-refused false None false true entries big refused each h = λ same. let bad : Exists ≡ WriteFault = same_refusal Exists refused h ∙ same in cc
+first-refused false None false false true big refused each h = λ same. let bad : NotEmpty ≡ WriteFault = same_refusal NotEmpty refused h ∙ same in cc
+first-refused false None false false false true refused each h = λ same. let bad : TooBig ≡ WriteFault = same_refusal TooBig refused h ∙ same in cc
+first-refused false None false false false false refused each h = absurd (cc)
+
+walks-refused : (end : Result Row Reply) → ((r : Reply) → end ≡ Err r → r ≢ WriteFault) → (r : Reply) → refusal_of end ≡ Some r → r ≢ WriteFault
+walks-refused (Ok row) each r h = absurd (cc)
+walks-refused (Err refused) each r h = let is : refused ≡ r = same_refusal refused r h in each r (ap (λ e. Err e) is)
+
+change_walks : (tree : Rows) (request : Request) → IsChange request → (r : Reply) → walk_refusal tree request ≡ Some r → r ≢ WriteFault
+change_walks tree (Create path) is = walks-refused (walk_parent tree path) (λ r. parent-refused (walk tree (parent_path path)) r (walk-refused tree (parent_path path)))
+change_walks tree (Write path pieces) is = walks-refused (walk tree path) (walk-refused tree path)
+change_walks tree _ is = absurd is
+
+pub change-refused : (limits : Limits) (tree : Rows) (request : Request) → IsChange request → (refused : Reply) → refusal limits tree request ≡ Some refused → refused ≢ WriteFault
+change-refused limits tree request is refused h =
+    first-refused (has_bad_name request) (walk_refusal tree request) (names_directory tree request) (name_is_there tree request) (has_entries tree request) (is_too_big limits tree request) refused (change_walks tree request is) h
 
 pub space-refused : (limits : Limits) (tree : Rows) (refused : Reply) → space_refusal limits tree ≡ Some refused → refused ≢ WriteFault
 space-refused limits tree refused h = by_room (nat_lt limits.nodes (nodes_of_tree tree)) (nat_lt limits.data_blocks (data_of_tree tree)) h

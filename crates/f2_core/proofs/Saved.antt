@@ -22,7 +22,8 @@ use Rattle.f2_model.specs.declared.histories.Entry.TheVariants as entry
 use Rattle.f2_laws.proofs.Maps.{get_put}
 use Rattle.f2_laid.specs.Laid.{IsStorable, IsLaid}
 use Rattle.f2_laid.specs.declared.stored.Stored.{Stored}
-use Rattle.f2_core.specs.Seen.{IsFlat, IsHeld, IsIn, limits_of}
+use Rattle.f2_flat.specs.Flat.{IsFlat, limits_of}
+use Rattle.f2_core.specs.Seen.{IsHeld, IsIn}
 use Rattle.f2_core.specs.Events.{GoesOn, ComesTo}
 use Rattle.f2_plain_save.specs.Saves.{IsSaved}
 use Rattle.f2_core.specs.declared.volumes.Volume.{Volume}
@@ -71,7 +72,7 @@ four_more before after a b c d e = ap length e ∙ length-append before (a ∷ b
 
 module _ {D : Type 0} (disk after_disk : D) (extent : Extent) (was told : Option Contents) (before after : History) (from : State) (next : Stored) where
   -- a sync of an open volume
-  module _ (volume : Volume) (is : IsIn extent was (Some volume) before from) (flat : IsFlat extent volume.tree) (seat : ℕ) (early : length before.entries < MOST_ENTRIES) (other : seat ≢ MOUNT_SEAT) where
+  module _ (volume : Volume) (is : IsIn extent was (Some volume) before from) (flat : IsFlat extent volume.files) (seat : ℕ) (early : length before.entries < MOST_ENTRIES) (other : seat ≢ MOUNT_SEAT) where
     abbrev first : Happening
     first = record { event = Begin seat Sync; faults = calm; turn = begun_turn from seat }
 
@@ -99,15 +100,15 @@ module _ {D : Type 0} (disk after_disk : D) (extent : Extent) (was told : Option
       (step-tail (limits_of extent) begun seat check open_still is.pending, (step-done (limits_of extent) tailed seat begun.live check open_still refl no_unmount, refl)),
     )
 
-    pub syncs : IsSome was → next.geometry ≡ volume.stored.geometry → next.version ≡ volume.stored.version + 1 → WhereTold was told (IsSaved volume.stored volume.tree next)
+    pub syncs : IsSome was → next.geometry ≡ volume.stored.geometry → next.version ≡ volume.stored.version + 1 → WhereTold was told (IsSaved volume.stored volume.files next)
         → after.entries ≡ before.entries ++ entry.Begin seat Sync ∷ entry.CpBegin seat plan.Sync ∷ entry.CpTail seat ∷ entry.CpDone seat ∷ [] → after.choices ≡ before.choices ++ []
-        → ComesTo (seen disk extent (Some volume) before) (seen after_disk extent (Some (record { tree = volume.tree; stored = next })) after) told from (Begin seat Sync) (replied reply.Synced)
+        → ComesTo (seen disk extent (Some volume) before) (seen after_disk extent (Some (record { files = volume.files; stored = next })) after) told from (Begin seat Sync) (replied reply.Synced)
     syncs tells sizes version saved entries choices =
         let more = four_more before.entries after.entries _ _ _ _ entries in
         let count = is.entries in
         let old = is.version in
         let known = ap (λ (s : Stored). s.version) is.known.told in
-        comes disk after_disk extent (Some volume) (Some (record { tree = volume.tree; stored = next })) before after was told from is (Begin seat Sync) (replied reply.Synced)
+        comes disk after_disk extent (Some volume) (Some (record { files = volume.files; stored = next })) before after was told from is (Begin seat Sync) (replied reply.Synced)
         (first ∷ tail_of begun seat ∷ done_of tailed seat ∷ []) (done_of tailed seat).turn.after happened
         (inr (record { first = first; rest = tail_of begun seat ∷ done_of tailed seat ∷ []; whole = refl; plan = plan.Sync; begun = refl; going = refl; goes_on = goes_on begun seat }))
         (omega arith) entries choices (record {
@@ -123,7 +124,7 @@ module _ {D : Type 0} (disk after_disk : D) (extent : Extent) (was told : Option
           stored = next;
           version = omega (arith, old, known, version, more);
           known = record { live = is.known.live; told = refl };
-          held = saved_held extent was told volume.stored is.stored next from.base volume.tree from.live tells is.known.told is.flat sizes is.known.live is.held saved;
+          held = saved_held extent was told volume.stored is.stored next from.base volume.files from.live tells is.known.told is.flat sizes is.known.live is.held saved;
         })
 
   -- a mount of a closed one, which found a tree
@@ -146,15 +147,15 @@ module _ {D : Type 0} (disk after_disk : D) (extent : Extent) (was told : Option
       (step-tail (limits_of extent) found_state MOUNT_SEAT found_check refl refl, (step-done (limits_of extent) mounted MOUNT_SEAT found_state.live found_check refl refl refl, refl)),
     )
 
-    pub mounts : IsSome was → volume.tree ≡ from.base → volume.stored ≡ is.stored → next.geometry ≡ volume.stored.geometry → next.version ≡ volume.stored.version + 1 → WhereTold was told (IsSaved volume.stored volume.tree next)
+    pub mounts : IsSome was → volume.files ≡ from.base → volume.stored ≡ is.stored → next.geometry ≡ volume.stored.geometry → next.version ≡ volume.stored.version + 1 → WhereTold was told (IsSaved volume.stored volume.files next)
         → after.entries ≡ before.entries ++ entry.Mounted 0 ∷ entry.CpBegin MOUNT_SEAT plan.Sync ∷ entry.CpTail MOUNT_SEAT ∷ entry.CpDone MOUNT_SEAT ∷ [] → after.choices ≡ before.choices ++ 0 ∷ []
-        → ComesTo (seen disk extent None before) (seen after_disk extent (Some (record { tree = volume.tree; stored = next })) after) told from Mount (machine.Found 0)
+        → ComesTo (seen disk extent None before) (seen after_disk extent (Some (record { files = volume.files; stored = next })) after) told from Mount (machine.Found 0)
     mounts tells same known sizes version saved entries choices =
         let more = four_more before.entries after.entries _ _ _ _ entries in
         let count = is.entries in
         let old = is.version in
         let versions = ap (λ (s : Stored). s.version) known in
-        comes disk after_disk extent None (Some (record { tree = volume.tree; stored = next })) before after was told from is Mount (machine.Found 0)
+        comes disk after_disk extent None (Some (record { files = volume.files; stored = next })) before after was told from is Mount (machine.Found 0)
         (found_one ∷ tail_of found_state MOUNT_SEAT ∷ done_of mounted MOUNT_SEAT ∷ []) (done_of mounted MOUNT_SEAT).turn.after mount_happened
         (record { first = found_one; rest = tail_of found_state MOUNT_SEAT ∷ done_of mounted MOUNT_SEAT ∷ []; whole = refl; begun = refl; found = refl; told = reply.Synced; goes_on = goes_on found_state MOUNT_SEAT })
         (omega arith) entries choices (record {
@@ -170,5 +171,5 @@ module _ {D : Type 0} (disk after_disk : D) (extent : Extent) (was told : Option
           stored = next;
           version = omega (arith, old, versions, version, more);
           known = record { live = sym same; told = refl };
-          held = saved_held extent was told volume.stored is.stored next from.base volume.tree from.base tells known is.flat sizes (sym same) is.held saved;
+          held = saved_held extent was told volume.stored is.stored next from.base volume.files from.base tells known is.flat sizes (sym same) is.held saved;
         })

@@ -1,6 +1,6 @@
 -- What happens to a core is a step of the machine, case by case.
 use Rattle.std.proofs.Common.{◌≡◌, ◌≢◌, ◌⊎◌, inl, inr, ℕ, ◌<◌, ◌≤◌, Bool, true, false, not, nat_le, List, [], ◌∷◌, refl, sym, ap, ◌∙◌, subst, arith, true≢false}
-use Rattle.std.specs.Prelude.{Option, Some, None, MatchOption, if◌then◌else◌, take}
+use Rattle.std.specs.Prelude.{Option, Some, None, Result, Ok, Err, MatchOption, if◌then◌else◌, take}
 use Rattle.std.specs.Bool.{MatchBool}
 use Rattle.std.specs.List.{filter}
 use Rattle.std.specs.Option.{unwrap_or}
@@ -9,30 +9,32 @@ use Rattle.std.specs.Cmp.{nat_cmp_total}
 use Rattle.std.specs.FinMap as map
 use Rattle.std.specs.FinMap.{nat_cmp-IsAntisymmetric}
 use Rattle.f2_model.specs.declared.bounds.Limits.{Limits}
+use Rattle.f2_model.specs.declared.rows.Row.{Row}
 use Rattle.f2_model.specs.declared.requests.Request.{Request}
-use Rattle.f2_model.specs.declared.requests.Request.TheVariants.{Create, Sync}
+use Rattle.f2_model.specs.declared.requests.Request.TheVariants.{Create, Write, Sync}
 use Rattle.f2_model.specs.declared.replies.Plan.TheVariants as plan
 use Rattle.f2_model.specs.declared.replies.Begun.TheVariants.{Going}
 use Rattle.f2_model.specs.declared.replies.Reply.{Reply}
 use Rattle.f2_model.specs.declared.replies.Reply.TheVariants as reply
 use Rattle.f2_model.specs.declared.replies.Step.TheVariants as step
 use Rattle.f2_model.specs.declared.histories.Entry.TheVariants as entry
-use Rattle.f2_model.specs.Tree.{Rows}
+use Rattle.f2_model.specs.Tree.{Rows, walk}
 use Rattle.f2_model.specs.Call.{refusal, effect, space_refusal}
-use Rattle.f2_model.specs.State.{State, Mark, Mode, Shut, Up, Flight, InCheck, IsFreeIno}
+use Rattle.f2_model.specs.State.{State, Mark, Mode, Shut, Up, Flight, InCheck}
 use Rattle.f2_model.specs.Step as machine
-use Rattle.f2_model.specs.Step.{Step, Turn, Begin, Go, Mount, Crash, Began, Stepped, AlreadyMounted, MOST_ENTRIES, MOUNT_SEAT, is_up, is_shut, is_check, first_key, barring_seat, least_in_flight, is_unmount, based, left, turned, unchanged, replied, did, called, found, completes, crashed}
+use Rattle.f2_model.specs.Step.{Step, Faults, Turn, Serves, TakesEffect, ReadFails, freezes, freezing, freezing_walked, Begin, Go, Mount, Crash, Began, Stepped, AlreadyMounted, MOST_ENTRIES, MOUNT_SEAT, is_up, is_shut, is_check, first_key, barring_seat, least_in_flight, is_unmount, based, left, turned, unchanged, replied, did, found, completes, crashed}
 use Rattle.f2_laws.proofs.Maps.{get_put-other, get_taken, get_taken-other}
 use Rattle.f2_laws.proofs.Places.{same_or_other}
-use Rattle.f2_core.proofs.PlainTrees.{entries-empty}
+use Rattle.f2_core.specs.Changes.{IsChange}
+use Rattle.f2_core.proofs.Empty.{entries-empty}
 use Rattle.f2_core.proofs.Runs.{calm}
 
 -- a choice by a test, and by what there is, at a known answer
-on_false : (b : Bool) (P Q : Type 0) → b ≡ false → Q → MatchBool b P Q
+pub on_false : (b : Bool) (P Q : Type 0) → b ≡ false → Q → MatchBool b P Q
 on_false true P Q is q = absurd (true≢false is)
 on_false false P Q is q = q
 
-on_true : (b : Bool) (P Q : Type 0) → b ≡ true → P → MatchBool b P Q
+pub on_true : (b : Bool) (P Q : Type 0) → b ≡ true → P → MatchBool b P Q
 on_true true P Q is p = p
 on_true false P Q is p = absurd (true≢false (sym is))
 
@@ -86,11 +88,28 @@ done_turn state seat = turned (Stepped (step.Replied reply.Synced)) (entry.CpDon
 abbrev pub found_turn : State → Turn
 found_turn state = found state state.base [] 0
 
-abbrev pub made_turn : State → ℕ → List (List ℕ) → ℕ → Turn
-made_turn state seat path ino = did state seat (Create path) reply.Done (ino ∷ []) (called state (Create path) ino)
+abbrev pub refused_turn : State → ℕ → Request → Reply → Turn
+refused_turn state seat request refused = did state seat request refused [] state
 
-abbrev pub refused_turn : State → ℕ → List (List ℕ) → Reply → Turn
-refused_turn state seat path refused = did state seat (Create path) refused [] state
+-- nobody keeps a call that changes files off
+nobody_freezes : (state : State) (end : Result Row Reply) → state.flights ≡ map.empty → freezing_walked state end ≡ None
+nobody_freezes state (Ok row) none =
+    ap (λ (f : map.FinMap nat_cmp Flight). first_key (filter (λ one. freezes row.ino one.1) (map.entries f))) none
+    ∙ ap (λ (es : List (ℕ × Flight)). first_key (filter (λ one. freezes row.ino one.1) es)) (entries-empty {X = Flight})
+nobody_freezes state (Err refused) none = refl
+
+nobody_freezes_change : (state : State) (request : Request) → IsChange request → state.flights ≡ map.empty → freezing state request ≡ None
+nobody_freezes_change state (Create path) is none = refl
+nobody_freezes_change state (Write path pieces) is none = nobody_freezes state (walk state.live path) none
+nobody_freezes_change state _ is none = absurd is
+
+-- such a call is one of one event
+serves_change : (limits : Limits) (faults : Faults) (state : State) (seat : ℕ) (request : Request) (turn : Turn) → IsChange request
+    → MatchOption (space_refusal limits (effect state.live request limits.nids)) (TakesEffect limits state seat request turn ⊎ ReadFails faults state seat request turn) (λ refused. turn ≡ did state seat request refused [] state)
+    → Serves limits faults state seat request turn
+serves_change limits faults state seat (Create path) turn is h = h
+serves_change limits faults state seat (Write path pieces) turn is h = h
+serves_change limits faults state seat _ turn is h = absurd is
 
 module _ (limits : Limits) (state : State) where
   pub step-closed : (seat : ℕ) (request : Request) → state.mode ≡ Shut → Step limits calm state (Begin seat request) (unchanged state (replied reply.Closed))
@@ -103,30 +122,34 @@ module _ (limits : Limits) (state : State) where
   step-memory seat request = inr refl
 
   module _ (up : state.mode ≡ Up) (early : state.entries < MOST_ENTRIES) (free : state.flights ≡ map.empty) where
-    pub step-refused : (seat : ℕ) (path : List (List ℕ)) (refused : Reply) → refusal limits state.live (Create path) ≡ Some refused → Step limits calm state (Begin seat (Create path)) (refused_turn state seat path refused)
-    step-refused seat path refused is = inl (
-        on_false (not (is_up state.mode)) _ _ (ap (λ (m : Mode). not (is_up m)) up) (
-        on_false (nat_le MOST_ENTRIES state.entries) _ _ (is_above MOST_ENTRIES state.entries early) (
-        on_none (barring_seat state seat) _ _ (nobody_bars state.flights seat free) (
-        on_some (refusal limits state.live (Create path)) _ _ refused is refl))))
+    module _ (seat : ℕ) (request : Request) where
+      -- the call that is neither closed off, nor too late, nor barred goes on to its refusals
+      step-on : (turn : Turn) → MatchOption (refusal limits state.live request)
+          (MatchOption (freezing state request) (Serves limits calm state seat request turn) (λ by. turn ≡ unchanged state (replied (reply.Busy by))))
+          (λ refused. turn ≡ did state seat request refused [] state) → Step limits calm state (Begin seat request) turn
+      step-on turn rest = inl (
+          on_false (not (is_up state.mode)) _ _ (ap (λ (m : Mode). not (is_up m)) up) (
+          on_false (nat_le MOST_ENTRIES state.entries) _ _ (is_above MOST_ENTRIES state.entries early) (
+          on_none (barring_seat state seat) _ _ (nobody_bars state.flights seat free) rest)))
 
-    pub step-kept_out : (seat : ℕ) (path : List (List ℕ)) (refused : Reply) → refusal limits state.live (Create path) ≡ None → space_refusal limits (effect state.live (Create path) limits.nids) ≡ Some refused
-        → Step limits calm state (Begin seat (Create path)) (refused_turn state seat path refused)
-    step-kept_out seat path refused none is = inl (
-        on_false (not (is_up state.mode)) _ _ (ap (λ (m : Mode). not (is_up m)) up) (
-        on_false (nat_le MOST_ENTRIES state.entries) _ _ (is_above MOST_ENTRIES state.entries early) (
-        on_none (barring_seat state seat) _ _ (nobody_bars state.flights seat free) (
-        on_none (refusal limits state.live (Create path)) _ _ none (
-        on_some (space_refusal limits (effect state.live (Create path) limits.nids)) _ _ refused is refl)))))
+      pub step-refused : (refused : Reply) → refusal limits state.live request ≡ Some refused → Step limits calm state (Begin seat request) (refused_turn state seat request refused)
+      step-refused refused is = step-on (refused_turn state seat request refused) (on_some (refusal limits state.live request) _ _ refused is refl)
 
-    pub step-made : (seat : ℕ) (path : List (List ℕ)) (ino : ℕ) → refusal limits state.live (Create path) ≡ None → space_refusal limits (effect state.live (Create path) limits.nids) ≡ None → IsFreeIno limits state ino
-        → Step limits calm state (Begin seat (Create path)) (made_turn state seat path ino)
-    step-made seat path ino none room is = inl (
-        on_false (not (is_up state.mode)) _ _ (ap (λ (m : Mode). not (is_up m)) up) (
-        on_false (nat_le MOST_ENTRIES state.entries) _ _ (is_above MOST_ENTRIES state.entries early) (
-        on_none (barring_seat state seat) _ _ (nobody_bars state.flights seat free) (
-        on_none (refusal limits state.live (Create path)) _ _ none (
-        on_none (space_refusal limits (effect state.live (Create path) limits.nids)) _ _ room (inl (ino, is, refl)))))))
+      step-served : (turn : Turn) → IsChange request → refusal limits state.live request ≡ None
+          → MatchOption (space_refusal limits (effect state.live request limits.nids)) (TakesEffect limits state seat request turn ⊎ ReadFails calm state seat request turn) (λ refused. turn ≡ did state seat request refused [] state)
+          → Step limits calm state (Begin seat request) turn
+      step-served turn change none rest = step-on turn (
+          on_none (refusal limits state.live request) _ _ none (
+          on_none (freezing state request) _ _ (nobody_freezes_change state request change free) (serves_change limits calm state seat request turn change rest)))
+
+      pub step-kept_out : (refused : Reply) → IsChange request → refusal limits state.live request ≡ None → space_refusal limits (effect state.live request limits.nids) ≡ Some refused
+          → Step limits calm state (Begin seat request) (refused_turn state seat request refused)
+      step-kept_out refused change none is =
+          step-served (refused_turn state seat request refused) change none (on_some (space_refusal limits (effect state.live request limits.nids)) _ _ refused is refl)
+
+      pub step-takes : (turn : Turn) → IsChange request → refusal limits state.live request ≡ None → space_refusal limits (effect state.live request limits.nids) ≡ None → TakesEffect limits state seat request turn
+          → Step limits calm state (Begin seat request) turn
+      step-takes turn change none room takes = step-served turn change none (on_none (space_refusal limits (effect state.live request limits.nids)) _ _ room (inl takes))
 
     pub step-begun : (seat : ℕ) → Step limits calm state (Begin seat Sync) (begun_turn state seat)
     step-begun seat = inl (

@@ -9,7 +9,8 @@ use Rattle.f2_model.specs.Step.{Event, Answer, Begin, Mount, AlreadyMounted, MOS
 use Rattle.f2_model.specs.History.{History}
 use Rattle.f2_model.specs.declared.requests.Request.{Request}
 use Rattle.f2_model.specs.declared.replies.Reply.TheVariants as reply
-use Rattle.f2_core.specs.Seen.{IsIn, limits_of}
+use Rattle.f2_flat.specs.Flat.{limits_of}
+use Rattle.f2_core.specs.Seen.{IsIn}
 use Rattle.f2_core.specs.Events.{ComesTo}
 use Rattle.f2_core.specs.declared.volumes.Volume.{Volume}
 use Rattle.f2_core.proofs.Steps.{step-closed, step-spent, step-memory, step-mounted, step-no_memory, step-bad}

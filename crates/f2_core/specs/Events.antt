@@ -13,10 +13,11 @@ use Rattle.f2_model.specs.declared.replies.Reply.{Reply}
 use Rattle.f2_model.specs.declared.replies.Reply.TheVariants.{WriteFault}
 use Rattle.f2_model.specs.declared.replies.Step.TheVariants as step
 use Rattle.f2_model.specs.declared.requests.Request.{Request}
-use Rattle.f2_model.specs.declared.requests.Request.TheVariants.{Create, Sync}
+use Rattle.f2_model.specs.declared.requests.Request.TheVariants.{Create, Write, Sync}
 use Rattle.f2_image.specs.Meanings.{IsSafe}
 use Rattle.f2_laid.specs.Laid.{root_alone}
-use Rattle.f2_core.specs.Seen.{Seen, IsIn, limits_of}
+use Rattle.f2_flat.specs.Flat.{limits_of}
+use Rattle.f2_core.specs.Seen.{Seen, IsIn}
 use Rattle.f2_core.specs.declared.events.Event.{Event}
 use Rattle.f2_core.specs.declared.events.Event.TheVariants as event
 use Rattle.f2_core.specs.declared.events.Answer.{Answer}
@@ -27,6 +28,7 @@ use Rattle.f2_core.specs.declared.events.MountFault.TheVariants as fault
 -- the calls that a core takes so far; a checkpoint of the mount's seat would be an unmount
 abbrev pub IsServed : Event → Type 0
 IsServed (event.Begin seat (Create path)) = Unit {0}
+IsServed (event.Begin seat (Write path pieces)) = Unit {0}
 IsServed (event.Begin seat Sync) = seat ≢ machine.MOUNT_SEAT
 IsServed (event.Begin seat _) = ⊥
 IsServed event.Mount = Unit {0}

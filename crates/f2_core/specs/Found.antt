@@ -6,17 +6,18 @@ use Rattle.f2_model.specs.Tree.{Rows}
 use Rattle.f2_image.specs.Faults.{MOST_VERSION}
 use Rattle.f2_laid.specs.Laid.{IsKept}
 use Rattle.f2_laid.specs.declared.stored.Stored.{Stored}
-use Rattle.f2_core.specs.Seen.{IsFlat, IsHeld}
+use Rattle.f2_flat.specs.Flat.{IsFlat}
+use Rattle.f2_core.specs.Seen.{IsHeld}
 use Rattle.f2_core.specs.declared.volumes.Volume.{Volume}
 
 -- where a disk holds one image with a flat tree, this volume is that tree, as its checkpoint tells
 abbrev pub FindsHeld : Extent → Option Contents → Volume → Type 0
 FindsHeld extent told volume =
-    IfSome told (λ lists. (base : Rows) (stored : Stored) → IsFlat extent base → IsHeld extent lists base stored → (volume.tree ≡ base) × (volume.stored ≡ stored))
+    IfSome told (λ lists. (base : Rows) (stored : Stored) → IsFlat extent base → IsHeld extent lists base stored → (volume.files ≡ base) × (volume.stored ≡ stored))
 
 -- what holds of a volume that was found on any disk
 pub record IsSoundlyFound (extent : Extent) (volume : Volume) : Type 0 where
-  pub flat : IsFlat extent volume.tree
+  pub flat : IsFlat extent volume.files
   pub sizes : volume.stored.geometry ≡ extent
   pub kept : IsKept extent volume.stored.places
   pub version : volume.stored.version ≤ MOST_VERSION

@@ -2,5 +2,5 @@
 pub mod Seen
 pub mod Writes
 pub mod Found
-pub mod Added
+pub mod Changes
 pub mod Events

@@ -1,14 +1,12 @@
 -- What contracts see of a core, and which state of the machine it is in.
-use Rattle.std.specs.Prelude.{◌≡◌, ◌≢◌, ◌⊎◌, ℕ, ◌+◌, ◌<◌, ◌≤◌, [], length, IfSome, Option, Some, None, if◌then◌else◌}
+use Rattle.std.specs.Prelude.{◌≡◌, ℕ, ◌+◌, ◌<◌, ◌≤◌, [], length, IfSome, Option, Some, None, if◌then◌else◌}
 use Rattle.std.specs.Option.{option_map}
 use Rattle.std.specs.FinMap as map
 use Rattle.std.specs.FinSet as set
-use Rattle.f2_format.specs.Geometry.{Extent, IsGeometry, node_third, data_third, nid_limit}
+use Rattle.f2_format.specs.Geometry.{Extent, IsGeometry}
 use Rattle.f2_disk.specs.Contents.{Contents, alone}
-use Rattle.f2_model.specs.Tree.{Rows, ROOT, IsGoodTree}
-use Rattle.f2_model.specs.declared.bounds.Limits.{Limits}
+use Rattle.f2_model.specs.Tree.{Rows, ROOT}
 use Rattle.f2_model.specs.declared.rows.Row.{Row}
-use Rattle.f2_model.specs.declared.rows.Kind.TheVariants.{Regular}
 use Rattle.f2_model.specs.State.{State, Mode, Shut, Up, initial}
 use Rattle.f2_model.specs.Step.{is_up}
 use Rattle.f2_model.specs.Run.{IsRun}
@@ -17,15 +15,8 @@ use Rattle.f2_image.specs.Images.{Image}
 use Rattle.f2_image.specs.Faults.{MOST_VERSION}
 use Rattle.f2_laid.specs.Laid.{IsKept, IsLaid, root_alone}
 use Rattle.f2_laid.specs.declared.stored.Stored.{Stored}
+use Rattle.f2_flat.specs.Flat.{IsFlat, limits_of}
 use Rattle.f2_core.specs.declared.volumes.Volume.{Volume}
-
--- the bytes of a file that a volume takes
-abbrev pub FILE_SIZE : ℕ
-FILE_SIZE = 3780608
-
--- what an image of these sizes grants
-abbrev pub limits_of : Extent → Limits
-limits_of extent = record { nodes = node_third extent; data_blocks = data_third extent; nids = nid_limit extent; size = FILE_SIZE }
 
 -- the disk that a core holds, the sizes of its image, what it knows while it is open, and its history
 pub record Seen (D : Type 0) : Type 0 where
@@ -38,27 +29,9 @@ pub record Seen (D : Type 0) : Type 0 where
 abbrev pub HISTORY_ROOM : ℕ
 HISTORY_ROOM = 294912
 
--- a row is that of a file without pages in the root
-abbrev pub IsEmptyFile : Row → Type 0
-IsEmptyFile row = (row.kind ≡ Regular) × (row.parent ≡ ROOT) × (row.pages ≡ map.empty)
-
--- a tree of empty files in the root alone, made in the order of their inos
-pub record IsFlat (extent : Extent) (tree : Rows) : Type 0 where
-  pub good : IsGoodTree FILE_SIZE tree
-  pub fits : map.len tree ≤ node_third extent
-  pub dense : (ino : ℕ) (row : Row) → map.get tree ino ≡ Some row → (ROOT ≤ ino) × (ino < map.len tree + ROOT)
-  pub files : (ino : ℕ) (row : Row) → map.get tree ino ≡ Some row → ino ≢ ROOT → IsEmptyFile row
-
--- a row is the root's, or that of a file without pages in the root, with one of the first so many inos, and isn't too long
-pub record IsFlatRow (rows : ℕ) (row : Row) : Type 0 where
-  pub low : ROOT ≤ row.ino
-  pub high : row.ino < rows + ROOT
-  pub size : row.size ≤ FILE_SIZE
-  pub file : (row.ino ≡ ROOT) ⊎ IsEmptyFile row
-
 -- what holds of an open volume
 pub record IsOpen (extent : Extent) (history : History) (volume : Volume) : Type 0 where
-  pub flat : IsFlat extent volume.tree
+  pub flat : IsFlat extent volume.files
   pub sizes : volume.stored.geometry ≡ extent
   pub kept : IsKept extent volume.stored.places
   pub version : volume.stored.version ≤ MOST_VERSION + length history.entries
@@ -83,7 +56,7 @@ pub record IsHeld (extent : Extent) (lists : Contents) (base : Rows) (stored : S
 
 -- what an open volume knows is so in a state
 pub record Knows (state : State) (stored : Stored) (volume : Volume) : Type 0 where
-  pub live : state.live ≡ volume.tree
+  pub live : state.live ≡ volume.files
   pub told : volume.stored ≡ stored
 
 -- A core that has met no fault is in a state of the machine: one that its history leads to from the tree of the root
@@ -99,7 +72,7 @@ pub record IsIn (extent : Extent) (told : Option Contents) (volume : Option Volu
   pub entries : state.entries ≡ length history.entries
   pub flat : IsFlat extent state.base
   -- the base has the first of the live rows
-  pub older : (ino : ℕ) (row : Row) → map.get state.base ino ≡ Some row → IfSome volume (λ (opened : Volume). ino < map.len opened.tree + ROOT)
+  pub older : (ino : ℕ) (row : Row) → map.get state.base ino ≡ Some row → IfSome volume (λ (opened : Volume). ino < map.len opened.files + ROOT)
   pub stored : Stored
   pub version : stored.version ≤ length history.entries + 1
   pub known : IfSome volume (Knows state stored)
@@ -110,4 +83,4 @@ abbrev pub live_where_up : State → Option Rows
 live_where_up state = if is_up state.mode then Some state.live else None
 
 abbrev pub tree_of : Option Volume → Option Rows
-tree_of volume = option_map (λ (opened : Volume). opened.tree) volume
+tree_of volume = option_map (λ (opened : Volume). opened.files) volume

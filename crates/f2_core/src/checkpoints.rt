@@ -4,12 +4,12 @@ ghost use Rattle.f2_disk.specs.Meter.{HasFailed, IsWithin};
 ghost use Rattle.f2_core.specs.Found.{FindsHeld, IsSoundlyFound, NoneIsHeld, StaysHeld};
 
 use crate::events::MountFault;
-use crate::flat::is_flat;
 use crate::volumes::Volume;
 use f2_disk::Disk;
+use f2_flat::Files;
 use f2_layout::Geometry;
 use f2_plain_read::{Found, ReadFault, read};
-use std::alloc::Global;
+use std::alloc::{AllocError, Global};
 
 /// Flushes a disk, and builds the tree of its image from the blocks alone.
 pub(crate) fn find<D: Disk>(
@@ -30,10 +30,13 @@ pub(crate) fn find<D: Disk>(
     }
     match read(alloc, disk) {
         Ok(Found { tree, stored }) => {
-            if stored.geometry == *geometry && is_flat(&tree, geometry) {
-                Ok(Volume { tree, stored })
-            } else {
-                Err(MountFault::Bad)
+            if stored.geometry != *geometry {
+                return Err(MountFault::Bad);
+            }
+            match Files::of(alloc, tree, geometry) {
+                Ok(Some(files)) => Ok(Volume { files, stored }),
+                Ok(None) => Err(MountFault::Bad),
+                Err(AllocError) => Err(MountFault::Memory),
             }
         }
         Err(ReadFault::Read) => Err(MountFault::Read),

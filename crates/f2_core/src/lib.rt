@@ -5,25 +5,25 @@
 //! disk stands for the tree of the last checkpoint. So the history of a core is a run of the machine from the tree of
 //! the root alone.
 //!
-//! So far a core has empty files in the root. [`Core::made`] makes its image; a sync writes the whole tree as the next
-//! checkpoint; a mount builds the tree from the blocks alone. Claims are made of disks that tell what they hold, and
-//! nothing is claimed from an event on in which a call of the disk fails.
+//! So far a core has files in the root, with their content, and calls that add a file or write into one.
+//! [`Core::made`] makes its image; a sync writes the whole tree as the next checkpoint; a mount builds the tree from the
+//! blocks alone. Claims are made of disks that tell what they hold, and nothing is claimed from an event on in which a
+//! call of the disk fails.
 //!
 //! `specs/Seen` says what contracts see of a core and which states it may be in, `specs/Events` what a call comes to,
-//! `specs/Added` how a file is added, `specs/Found` what is found on a disk, and `specs/Writes` how many writes an event
-//! makes at most.
+//! `specs/Changes` what a call makes of the files, `specs/Found` what is found on a disk, and `specs/Writes` how many
+//! writes an event makes at most.
 #![tactic(auto)]
 
+mod changes;
 mod checkpoints;
 mod entries;
 mod events;
-mod files;
-mod flat;
 mod machine;
+mod outcomes;
 #[cfg(test)]
 mod tests;
 mod volumes;
-mod walks;
 
 pub use events::{Answer, Event, MountFault};
 pub use machine::{Core, making_writes};

@@ -1,23 +1,25 @@
 //! The core.
 ghost use Rattle.std.specs.Prelude.{◌≡◌, ◌≢◌, ◌<◌, ◌≤◌, ◌⊎◌, [], Some, None, length, IfErr, IfOk, IsSome, OnErr, OnOk};
 ghost use Rattle.std.specs.List.{AllByRecursion};
-ghost use Rattle.std.specs.Option.{option_copied};
+ghost use Rattle.std.specs.Option.{option_copied, option_map};
 ghost use Rattle.f2_disk.specs.Meter.{HasFailed, HasMoreRoom, IsCalm, IsWithin};
 ghost use Rattle.f2_image.specs.Faults.{MOST_VERSION};
 ghost use Rattle.f2_model.specs.State.{State};
 ghost use Rattle.f2_model.specs.Step as machine;
-ghost use Rattle.f2_model.specs.declared.requests.Request.TheVariants.{Create, Sync};
+ghost use Rattle.f2_model.specs.declared.requests.Request.TheVariants.{Sync};
+ghost use Rattle.f2_core.specs.Changes.{IsChange};
 ghost use Rattle.f2_core.specs.Events.{TellsFault};
 ghost use Rattle.f2_core.specs.Writes.{checkpoint_writes, making_writes as most_making};
 
+use crate::changes::{Changed, change_files};
 use crate::checkpoints::find;
 use crate::entries::{add_checkpoint, add_fault, add_unfound, sync_begun};
 use crate::events::{Answer, Event, MountFault};
-use crate::files::{add_file, outcome_of};
+use crate::outcomes::outcome_of;
 use crate::volumes::Volume;
 use f2_disk::{Bench, Disk};
 use f2_layout::Geometry;
-use f2_model::{Begun, Entry, Log, Path, Reply, Request, Tree};
+use f2_model::{Begun, Entry, Log, Reply, Request, Tree};
 use f2_plain_save::{SaveFault, mkfs, save};
 use std::alloc::{AllocError, Global};
 use std::marker::Model;
@@ -128,13 +130,11 @@ impl<D: Disk> Core<D> {
         match event {
             Event::Begin {
                 seat,
-                request: Request::Create { path },
-            } => Answer::Begun(Begun::Replied(self.create(seat, path))),
-            Event::Begin {
-                seat,
                 request: Request::Sync,
             } => Answer::Begun(Begun::Replied(self.sync(seat))),
-            Event::Begin { .. } => unreachable!(),
+            Event::Begin { seat, request } => {
+                Answer::Begun(Begun::Replied(self.change(seat, request)))
+            }
             Event::Mount => self.mount(),
         }
     }
@@ -161,7 +161,7 @@ impl<D: Disk> Core<D> {
     pub fn tree(&self) -> Option<&Tree>
         ensures { option_copied result ≡ tree_of self.now.volume }
     {
-        self.volume.as_ref().map(|volume| &volume.tree)
+        self.volume.as_ref().map(|volume| volume.files.tree())
     }
 
     /// The most writes that an event makes.
@@ -179,26 +179,28 @@ impl<D: Disk> Core<D> {
         disk
     }
 
-    /// A seat makes an empty file.
-    fn create(&mut self, seat: u8, path: Path) -> Reply
+    /// A seat changes files.
+    fn change(&mut self, seat: u8, request: Request) -> Reply
+        requires { IsChange request }
         ensures comes { (from : State) → IsIn self.old.geometry (D.contents self.old.disk) self.old.volume self.old.history from
-            → ComesTo self.old self.new (D.contents self.new.disk) from (machine.Begin seat (Create path)) (machine.replied result) }
+            → ComesTo self.old self.new (D.contents self.new.disk) from (machine.Begin seat request) (machine.replied result) }
         ensures kept { (self.new.geometry ≡ self.old.geometry) × (self.new.disk ≡ self.old.disk) }
         ensures calm { ¬ (TellsFault (machine.replied result)) }
     {
         let Some(mut volume) = self.volume.take() else {
             return Reply::Closed;
         };
-        let reply = self.create_in(&mut volume, seat, path);
+        let reply = self.change_in(&mut volume, seat, request);
         self.volume = Some(volume);
         reply
     }
 
-    /// A seat makes an empty file in a volume that was taken out of the core.
-    fn create_in(&mut self, volume: &mut Volume, seat: u8, path: Path) -> Reply
-        requires { IsOpen self.old.geometry self.old.history volume.old }
+    /// A seat changes files of a volume that was taken out of the core.
+    fn change_in(&mut self, volume: &mut Volume, seat: u8, request: Request) -> Reply
+        requires opened { IsOpen self.old.geometry self.old.history volume.old }
+        requires change { IsChange request }
         ensures comes { (from : State) → IsIn self.old.geometry (D.contents self.old.disk) (Some volume.old) self.old.history from
-            → ComesTo (record self.old { volume = Some volume.old }) (record self.new { volume = Some volume.new }) (D.contents self.new.disk) from (machine.Begin seat (Create path)) (machine.replied result) }
+            → ComesTo (record self.old { volume = Some volume.old }) (record self.new { volume = Some volume.new }) (D.contents self.new.disk) from (machine.Begin seat request) (machine.replied result) }
         ensures opened { IsOpen self.new.geometry self.new.history volume.new }
         ensures kept { (self.new.geometry ≡ self.old.geometry) × (self.new.disk ≡ self.old.disk) }
         ensures calm { ¬ (TellsFault (machine.replied result)) }
@@ -206,16 +208,13 @@ impl<D: Disk> Core<D> {
         if self.history.len() >= MOST_ENTRIES {
             return Reply::Spent;
         }
-        let Ok(added) = add_file(self.alloc, &mut volume.tree, &self.geometry, &path) else {
+        let Ok(changed) = change_files(&mut volume.files, &self.geometry, &request) else {
             return Reply::Memory;
         };
-        let (reply, choice) = match added {
-            Ok(ino) => (Reply::Done, Some(ino)),
-            Err(refusal) => (refusal, None),
-        };
+        let Changed { reply, choice } = changed;
         let entry = Entry::Did {
             seat,
-            request: Request::Create { path },
+            request,
             outcome: outcome_of(&reply),
         };
         self.history.add(entry, choice);
@@ -240,10 +239,15 @@ impl<D: Disk> Core<D> {
             self.volume = Some(volume);
             return Reply::Spent;
         }
-        match save(self.alloc, &mut self.disk, &volume.stored, &volume.tree) {
+        match save(
+            self.alloc,
+            &mut self.disk,
+            &volume.stored,
+            volume.files.tree(),
+        ) {
             Ok(stored) => {
-                let tree = volume.tree;
-                self.volume = Some(Volume { tree, stored });
+                let files = volume.files;
+                self.volume = Some(Volume { files, stored });
                 add_checkpoint(&mut self.history, sync_begun(seat), None, seat);
                 Reply::Synced
             }
@@ -277,18 +281,18 @@ impl<D: Disk> Core<D> {
         if self.history.room(HISTORY_ROOM).is_err() {
             return Answer::Bad(MountFault::Memory);
         }
-        let Volume { tree, stored } = match find(self.alloc, &mut self.disk, &self.geometry) {
+        let Volume { files, stored } = match find(self.alloc, &mut self.disk, &self.geometry) {
             Ok(volume) => volume,
             Err(fault) => {
                 add_unfound(&mut self.history, fault, self.disk.faults());
                 return Answer::Bad(fault);
             }
         };
-        match save(self.alloc, &mut self.disk, &stored, &tree) {
+        match save(self.alloc, &mut self.disk, &stored, files.tree()) {
             Ok(stored) => {
                 let mounted = Entry::Mounted { rows: 0 };
                 add_checkpoint(&mut self.history, mounted, Some(0), MOUNT_SEAT);
-                self.volume = Some(Volume { tree, stored });
+                self.volume = Some(Volume { files, stored });
                 Answer::Found(0)
             }
             Err(SaveFault::Write) => {
@@ -303,6 +307,7 @@ impl<D: Disk> Core<D> {
 }
 
 impl<D: Bench> Core<D> {
+    ghost use Rattle.f2_disk.specs.Pick.{crashed};
     ghost use Rattle.f2_core.specs.Events.{HasCrashed};
     ghost use Rattle.f2_core.specs.Seen.{IsIn};
 
@@ -321,6 +326,8 @@ impl<D: Bench> Core<D> {
     pub fn crash(&mut self, pick: u64) -> Result<(), AllocError>
         ensures crashed { OnOk result ((from : State) → IsIn self.old.geometry (D.contents self.old.disk) self.old.volume self.old.history from
             → HasCrashed self.old self.new (D.contents self.new.disk) from) }
+        // The pick says which image is left of those that may be.
+        ensures contents { OnOk result (D.contents self.new.disk ≡ option_map (crashed pick) (D.contents self.old.disk)) }
         ensures told { IsSome (D.contents self.old.disk) → IsSome (D.contents self.new.disk) }
         ensures calm { OnOk result (IsCalm (D.meter self.old.disk).blocks (D.meter self.old.disk) (D.meter self.new.disk)) }
         ensures geometry { self.new.geometry ≡ self.old.geometry }

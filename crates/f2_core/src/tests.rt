@@ -5,7 +5,7 @@ ghost use Rattle.f2_core.specs.Events.{IsServed};
 use crate::{Answer, Core, Event, making_writes};
 use f2_disk::{Bench, Disk, MemBench};
 use f2_layout::Geometry;
-use f2_model::{Begun, Name, Path, Reply, Request};
+use f2_model::{Begun, Name, Path, Piece, Pieces, Reply, Request};
 use std::alloc::{AllocError, Global};
 use std::test::Fail;
 
@@ -34,13 +34,29 @@ fn mounted(alloc: Global) -> Result<Core<MemBench>, Fail> {
     }
 }
 
+/// The path of a name in the root.
+fn path_to(alloc: Global, name: &[u8]) -> Result<Path, AllocError> {
+    let mut path = Path::new(alloc);
+    path.push(Name::from_slice(alloc, name)?)?;
+    Ok(path)
+}
+
 /// A seat makes an empty file.
 fn create(alloc: Global, name: &[u8]) -> Result<Event, AllocError>
     ensures { IfOk result IsServed }
 {
-    let mut path = Path::new(alloc);
-    path.push(Name::from_slice(alloc, name)?)?;
+    let path = path_to(alloc, name)?;
     let request = Request::Create { path };
+    Ok(Event::Begin { seat: 1, request })
+}
+
+/// A seat writes a piece into a file.
+fn write(alloc: Global, name: &[u8], piece: Piece) -> Result<Event, AllocError>
+    ensures { IfOk result IsServed }
+{
+    let path = path_to(alloc, name)?;
+    let pieces = Pieces::from_slice(alloc, &[piece])?;
+    let request = Request::Write { path, pieces };
     Ok(Event::Begin { seat: 1, request })
 }
 
@@ -102,6 +118,27 @@ fn a_file_that_is_not_synced_is_gone_after_a_crash(rt: HostRuntime) -> Result<()
     core.crash(0)?;
     let _found = core.step(Event::Mount);
     assert_eq!(rt; rows(&core), Some(1));
+    Ok(())
+}
+
+#[test]
+fn a_written_page_is_there_after_a_crash(rt: HostRuntime) -> Result<(), Fail> {
+    let mut core = mounted(rt.alloc())?;
+    let _made = core.step(create(rt.alloc(), b"a")?);
+    let piece = Piece {
+        off: 4090,
+        len: 10,
+        byte: 7,
+    };
+    let told = core.step(write(rt.alloc(), b"a", piece)?);
+    assert!(rt; matches!(told, Answer::Begun(Begun::Replied(Reply::Done))));
+    let _synced = core.step(sync());
+    core.crash(0)?;
+    let _found = core.step(Event::Mount);
+    let row = core.tree().and_then(|tree| tree.get(4)).ok_or("a row")?;
+    assert_eq!(rt; row.size, 4100);
+    let page = row.pages.get(1).ok_or("a page")?;
+    assert_eq!(rt; page[3], 7);
     Ok(())
 }
 

@@ -1,10 +1,10 @@
 //! What a core knows of an open volume.
+use f2_flat::Files;
 use f2_laid::Stored;
-use f2_model::Tree;
 
-/// An open volume: its tree, and what the last checkpoint tells of the image.
-#[derive(Debug, Drop)]
+/// An open volume: its files, and what the last checkpoint tells of the image.
+#[derive(Drop)]
 pub struct Volume {
-    pub tree: Tree,
+    pub files: Files,
     pub stored: Stored,
 }

@@ -1,31 +1,57 @@
-use Rattle.std.proofs.Common.{Err, sym, ap, ◌∙◌, true≢false}
+use Rattle.std.proofs.Common.{Err, not, sym, ap, subst, ◌∙◌, true≢false}
+use Rattle.f2_core.specs.Found.{FindsHeld}
 use Rattle.f2_core.proofs.Finding.{on_ok, finds, finds_none, finds_other, same_sizes, stays_held}
 use Rattle.f2_core.proofs.checkpoints.find.Goals as goal
-use Rattle.f2_core.proofs.checkpoints.find.Goals.{else-eq-via-then-eq+else-is_flat, else-eq-via-else-eq}
 
-pub returns-then-is_flat-clause-found : goal.returns-then-is_flat-clause-found
-returns-then-is_flat-clause-found g c =
+pub returns-then-ne-clause-bad : goal.returns-then-ne-clause-bad
+returns-then-ne-clause-bad g c = λ _.
+    let extent = c.args.geometry.now in
+    let was = g.D.Disk.contents c.args.disk.now in
+    let tree = c.in-Ok.field-0.tree in
+    let stored = c.in-Ok.field-0.stored in
     let flush = on_ok c.flush.result (sym c.is_err.ensures.value ∙ c.if-is_err.false) c.flush.ensures.flushed in
-    finds c.args.geometry.now (g.D.Disk.contents c.args.disk.now) (g.D.Disk.contents c.flush.new.self) c.in-Ok.field-0.tree c.in-Ok.field-0.stored flush c.in-Ok.ensures.found
+    let found = finds extent was (g.D.Disk.contents c.flush.new.self) tree stored flush c.in-Ok.ensures.found in
+    finds_other extent was (record { files = tree; stored = stored }) found (λ flat sizes. true≢false (sym c.if-ne.true ∙ c.ne.ensures ∙ ap not (same_sizes stored.geometry extent sizes)))
 
-pub returns-then-is_flat-clause-kept : goal.returns-then-is_flat-clause-kept
-returns-then-is_flat-clause-kept g c =
+pub returns-then-ne-clause-kept : goal.returns-then-ne-clause-kept
+returns-then-ne-clause-kept g c =
     let flush = on_ok c.flush.result (sym c.is_err.ensures.value ∙ c.if-is_err.false) c.flush.ensures.flushed in
     stays_held c.args.geometry.now (g.D.Disk.contents c.args.disk.now) (g.D.Disk.contents c.flush.new.self) (g.D.Disk.contents c.read.new.disk) flush c.read.ensures.kept
 
-pub returns-else-eq-clause-bad : goal.returns-else-eq-clause-bad
-returns-else-eq-clause-bad g c = λ _.
+pub returns-in-Ok-Some-clause-found : goal.returns-in-Ok-Some-clause-found
+returns-in-Ok-Some-clause-found g c =
     let extent = c.args.geometry.now in
     let was = g.D.Disk.contents c.args.disk.now in
+    let tree = c.in-Ok.field-0.tree in
+    let stored = c.in-Ok.field-0.stored in
     let flush = on_ok c.flush.result (sym c.is_err.ensures.value ∙ c.if-is_err.false) c.flush.ensures.flushed in
-    let found = finds extent was (g.D.Disk.contents c.flush.new.self) c.in-Ok.field-0.tree c.in-Ok.field-0.stored flush c.in-Ok.ensures.found in
-    finds_other extent was (record { tree = c.in-Ok.field-0.tree; stored = c.in-Ok.field-0.stored }) found (λ flat sizes. elim c.else-eq.branch [
-      | else-eq-via-then-eq+else-is_flat w ↦ true≢false (sym (w.is_flat.ensures.1 flat) ∙ w.if-is_flat.false)
-      | else-eq-via-else-eq w ↦ true≢false (sym (c.eq.ensures ∙ same_sizes c.in-Ok.field-0.stored.geometry c.args.geometry.now sizes) ∙ w.if-eq.false)
-    ])
+    let found = finds extent was (g.D.Disk.contents c.flush.new.self) tree stored flush c.in-Ok.ensures.found in
+    let taken = rw c.in-Ok-Some.field-0-is at c.in-Ok-Some.ensures in
+    subst (λ files. FindsHeld extent was (record { files = files; stored = stored })) (sym taken.0) found
 
-pub returns-else-eq-clause-kept : goal.returns-else-eq-clause-kept
-returns-else-eq-clause-kept g c =
+pub returns-in-Ok-Some-clause-kept : goal.returns-in-Ok-Some-clause-kept
+returns-in-Ok-Some-clause-kept g c =
+    let flush = on_ok c.flush.result (sym c.is_err.ensures.value ∙ c.if-is_err.false) c.flush.ensures.flushed in
+    stays_held c.args.geometry.now (g.D.Disk.contents c.args.disk.now) (g.D.Disk.contents c.flush.new.self) (g.D.Disk.contents c.read.new.disk) flush c.read.ensures.kept
+
+pub returns-in-Ok-None-clause-bad : goal.returns-in-Ok-None-clause-bad
+returns-in-Ok-None-clause-bad g c = λ _.
+    let extent = c.args.geometry.now in
+    let was = g.D.Disk.contents c.args.disk.now in
+    let tree = c.in-Ok.field-0.tree in
+    let stored = c.in-Ok.field-0.stored in
+    let flush = on_ok c.flush.result (sym c.is_err.ensures.value ∙ c.if-is_err.false) c.flush.ensures.flushed in
+    let found = finds extent was (g.D.Disk.contents c.flush.new.self) tree stored flush c.in-Ok.ensures.found in
+    let other = rw c.in-Ok-None.field-0-is at c.in-Ok-None.ensures in
+    finds_other extent was (record { files = tree; stored = stored }) found (λ flat sizes. other flat)
+
+pub returns-in-Ok-None-clause-kept : goal.returns-in-Ok-None-clause-kept
+returns-in-Ok-None-clause-kept g c =
+    let flush = on_ok c.flush.result (sym c.is_err.ensures.value ∙ c.if-is_err.false) c.flush.ensures.flushed in
+    stays_held c.args.geometry.now (g.D.Disk.contents c.args.disk.now) (g.D.Disk.contents c.flush.new.self) (g.D.Disk.contents c.read.new.disk) flush c.read.ensures.kept
+
+pub returns-in-Err-clause-kept : goal.returns-in-Err-clause-kept
+returns-in-Err-clause-kept g c =
     let flush = on_ok c.flush.result (sym c.is_err.ensures.value ∙ c.if-is_err.false) c.flush.ensures.flushed in
     stays_held c.args.geometry.now (g.D.Disk.contents c.args.disk.now) (g.D.Disk.contents c.flush.new.self) (g.D.Disk.contents c.read.new.disk) flush c.read.ensures.kept
 

@@ -56,18 +56,20 @@ returns-in-Err-clause-comes g c =
 pub save-requires-clause-storable : goal.save-requires-clause-storable
 save-requires-clause-storable g c =
     let sound = c.in-Ok.ensures.sound in
-    subst (λ e. IsStorable e c.in-Ok.volume.tree) (sym sound.sizes) (storable c.self.inside.geometry c.self.invariant.sizes c.in-Ok.volume.tree sound.flat)
+    subst (IsStorable c.in-Ok.volume.stored.geometry) (sym c.tree.ensures)
+    (subst (λ e. IsStorable e c.in-Ok.volume.files) (sym sound.sizes) (storable c.self.inside.geometry c.self.invariant.sizes c.in-Ok.volume.files sound.flat))
 
 pub returns-in-Ok-save-clause-comes : goal.returns-in-Ok-save-clause-comes
 returns-in-Ok-save-clause-comes g c =
     let was = c.self.inside in
     let volume = c.in-Ok.volume in
-    let new : Volume = record { tree = volume.tree; stored = c.in-Ok-save.stored } in
+    let new : Volume = record { files = volume.files; stored = c.in-Ok-save.stored } in
     let told = g.D.Disk.contents was.disk in
     let mid = g.D.Disk.contents c.find.new.disk in
     let after = g.D.Disk.contents c.save.new.disk in
     let none = none_of was.volume (sym c.is_some.ensures ∙ c.if-is_some.false) in
     let taken = on_ok c.room.result (sym c.is_err.ensures.value ∙ c.if-is_err.false) c.room.ensures.ok in
+    let saved = subst (λ files. WhereTold mid after (IsSaved volume.stored files c.in-Ok-save.stored)) c.tree.ensures c.in-Ok-save.ensures.saved in
     let more = entry.CpBegin MOUNT_SEAT plan.Sync ∷ entry.CpTail MOUNT_SEAT ∷ entry.CpDone MOUNT_SEAT ∷ [] in
     subst (λ s. (from : State) → IsSome (g.D.Disk.contents s.disk) → IsIn s.geometry (g.D.Disk.contents s.disk) s.volume s.history from → ¬ (HasFailed (g.D.Disk.meter s.disk) (g.D.Disk.meter c.save.new.disk))
     → ComesTo s (seen c.save.new.disk was.geometry (Some new) c.add_checkpoint.new.history) after from Mount (machine.Found 0)) c.self.view_is (λ from tells is calm.
@@ -76,7 +78,7 @@ returns-in-Ok-save-clause-comes g c =
     let still = still_told was.geometry told mid from.base closed.stored tells closed.held c.in-Ok.ensures.kept in
     subst (λ v. ComesTo (seen was.disk was.geometry v was.history) (seen c.save.new.disk was.geometry (Some new) c.add_checkpoint.new.history) after from Mount (machine.Found 0)) (sym none)
     (mounts was.disk c.save.new.disk was.geometry told after was.history c.add_checkpoint.new.history from c.in-Ok-save.stored closed volume tells same.0 same.1
-    c.in-Ok-save.ensures.next.geometry c.in-Ok-save.ensures.version (subst (λ o. WhereTold o after (IsSaved volume.stored volume.tree c.in-Ok-save.stored)) still c.in-Ok-save.ensures.saved)
+    c.in-Ok-save.ensures.next.geometry c.in-Ok-save.ensures.version (subst (λ o. WhereTold o after (IsSaved volume.stored volume.files c.in-Ok-save.stored)) still saved)
     (c.add_checkpoint.ensures.entries ∙ ap (λ h. h.entries ++ entry.Mounted 0 ∷ more) taken) (c.add_checkpoint.ensures.choices ∙ ap (λ h. h.choices ++ 0 ∷ []) taken)))
 
 pub returns-clause-comes : goal.returns-clause-comes

@@ -1,5 +1,6 @@
 use Rattle.std.proofs.Common.{◌≡◌, ◌≤◌, ◌<◌, ◌++◌, ◌∷◌, [], length, Some, None, Err, arith, refl, sym, ap, ◌∙◌, subst}
 use Rattle.std.specs.Prelude.{IsSome}
+use Rattle.f2_disk.specs.Contents.{WhereTold}
 use Rattle.f2_disk.specs.Meter.{HasFailed}
 use Rattle.f2_model.specs.State.{State}
 use Rattle.f2_model.specs.Step.{Begin, MOST_ENTRIES, replied}
@@ -8,6 +9,7 @@ use Rattle.f2_model.specs.declared.replies.Reply.TheVariants as reply
 use Rattle.f2_model.specs.declared.replies.Plan.TheVariants as plan
 use Rattle.f2_model.specs.declared.histories.Entry.TheVariants as entry
 use Rattle.f2_laid.specs.Laid.{IsStorable}
+use Rattle.f2_plain_save.specs.Saves.{IsSaved}
 use Rattle.f2_core.specs.Seen.{IsIn, IsOpen}
 use Rattle.f2_core.specs.Events.{ComesTo}
 use Rattle.f2_core.specs.declared.volumes.Volume.{Volume}
@@ -41,24 +43,26 @@ save-requires-clause-storable g c =
     let was = c.self.inside in
     let some : was.volume ≡ Some c.in-Some.volume = sym c.take.ensures.value ∙ c.in-Some.is in
     let opened = of_some (IsOpen was.geometry was.history) was.volume c.in-Some.volume some c.self.invariant.opened in
-    subst (λ e. IsStorable e c.in-Some.volume.tree) (sym opened.sizes) (storable was.geometry c.self.invariant.sizes c.in-Some.volume.tree opened.flat)
+    subst (IsStorable c.in-Some.volume.stored.geometry) (sym c.tree.ensures)
+    (subst (λ e. IsStorable e c.in-Some.volume.files) (sym opened.sizes) (storable was.geometry c.self.invariant.sizes c.in-Some.volume.files opened.flat))
 
 pub returns-in-Ok-clause-comes : goal.returns-in-Ok-clause-comes
 returns-in-Ok-clause-comes g c =
     let was = c.self.inside in
     let volume = c.in-Some.volume in
-    let new : Volume = record { tree = volume.tree; stored = c.in-Ok.stored } in
+    let new : Volume = record { files = volume.files; stored = c.in-Ok.stored } in
     let told = g.D.Disk.contents was.disk in
     let after = g.D.Disk.contents c.save.new.disk in
     let some : was.volume ≡ Some volume = sym c.take.ensures.value ∙ c.in-Some.is in
     let opened = of_some (IsOpen was.geometry was.history) was.volume volume some c.self.invariant.opened in
     let early : length was.history.entries < MOST_ENTRIES = omega (arith, c.len.ensures, c.if-len-ge-MOST_ENTRIES.false) in
+    let saved = subst (λ files. WhereTold told after (IsSaved volume.stored files c.in-Ok.stored)) c.tree.ensures c.in-Ok.ensures.saved in
     let entries = c.add_checkpoint.ensures.entries ∙ ap (λ e. was.history.entries ++ e ∷ entry.CpBegin c.args.seat plan.Sync ∷ entry.CpTail c.args.seat ∷ entry.CpDone c.args.seat ∷ []) c.sync_begun.ensures in
     subst (λ s. (from : State) → IsSome (g.D.Disk.contents s.disk) → IsIn s.geometry (g.D.Disk.contents s.disk) s.volume s.history from → ¬ (HasFailed (g.D.Disk.meter s.disk) (g.D.Disk.meter c.save.new.disk))
     → ComesTo s (seen c.save.new.disk was.geometry (Some new) c.add_checkpoint.new.history) after from (Begin c.args.seat Sync) (replied reply.Synced)) c.self.view_is (λ from tells is calm.
     subst (λ v. ComesTo (seen was.disk was.geometry v was.history) (seen c.save.new.disk was.geometry (Some new) c.add_checkpoint.new.history) after from (Begin c.args.seat Sync) (replied reply.Synced)) (sym some)
     (syncs was.disk c.save.new.disk was.geometry told after was.history c.add_checkpoint.new.history from c.in-Ok.stored volume (subst (λ v. IsIn was.geometry told v was.history from) some is) opened.flat c.args.seat early c.requires
-    tells c.in-Ok.ensures.next.geometry c.in-Ok.ensures.version c.in-Ok.ensures.saved entries c.add_checkpoint.ensures.choices))
+    tells c.in-Ok.ensures.next.geometry c.in-Ok.ensures.version saved entries c.add_checkpoint.ensures.choices))
 
 pub returns-in-Err-Memory-clause-comes : goal.returns-in-Err-Memory-clause-comes
 returns-in-Err-Memory-clause-comes g c =

@@ -1,0 +1,182 @@
+-- What a call that changes files comes to.
+use Rattle.std.proofs.Common.{◌≡◌, ◌≢◌, inl, inr, ℕ, ◌+◌, ◌*◌, ◌<◌, ◌≤◌, List, [], ◌∷◌, ◌++◌, length, Result, Ok, Err, refl, sym, ap, ◌∙◌, subst, arith, length-append, append-nil}
+use Rattle.std.specs.Prelude.{Option, Some, None, IfSome, option_to_list}
+use Rattle.std.specs.Ordering.{nat_cmp}
+use Rattle.std.specs.FinMap as map
+use Rattle.std.specs.FinSet as set
+use Rattle.f2_format.specs.Geometry.{Extent, IsGeometry, node_third, nid_limit}
+use Rattle.f2_disk.specs.Contents.{Contents}
+use Rattle.f2_model.specs.Tree.{Rows, ROOT, walk}
+use Rattle.f2_model.specs.Call.{answer, effect, refusal, space_refusal}
+use Rattle.f2_model.specs.State.{State, IsFreeIno, dirtied, marked_dirty, removed, touched, with_rows}
+use Rattle.f2_model.specs.Step.{Step, Begin, TakesEffect, MOST_ENTRIES, adds_row, called, did, replied, outcome_of}
+use Rattle.f2_model.specs.Run.{Happening}
+use Rattle.f2_model.specs.History.{History}
+use Rattle.f2_model.specs.declared.rows.Row.{Row}
+use Rattle.f2_model.specs.declared.requests.Request.{Request}
+use Rattle.f2_model.specs.declared.requests.Request.TheVariants.{Create, Write}
+use Rattle.f2_model.specs.declared.replies.Reply.{Reply}
+use Rattle.f2_model.specs.declared.replies.Reply.TheVariants as reply
+use Rattle.f2_model.specs.declared.histories.Entry.{Entry}
+use Rattle.f2_model.specs.declared.histories.Entry.TheVariants as entry
+use Rattle.f2_flat.specs.Flat.{IsFlat, limits_of}
+use Rattle.f2_core.specs.Seen.{IsHeld, IsIn}
+use Rattle.f2_core.specs.Changes.{IsChange, IsChanged, IsRefused, TookEffect, by_refusal, in_place, by_new_row}
+use Rattle.f2_core.specs.Events.{ComesTo}
+use Rattle.f2_core.specs.declared.changes.Changed.{Changed}
+use Rattle.f2_core.specs.declared.volumes.Volume.{Volume}
+use Rattle.f2_core.proofs.Grown.{next_free}
+use Rattle.f2_core.proofs.Refusals.{change-refused, space-refused}
+use Rattle.f2_core.proofs.Runs.{calm}
+use Rattle.f2_core.proofs.Steps.{on_false, on_true, refused_turn, step-refused, step-kept_out, step-takes}
+use Rattle.f2_core.proofs.Comes.{seen, comes, short}
+
+one_more : (before after : List Entry) (more : Entry) → after ≡ before ++ more ∷ [] → length after ≡ length before + 1
+one_more before after more e = ap length e ∙ length-append before (more ∷ [])
+
+-- what stays in a state when a call changes files: all but the tree that calls see, and what is dirty
+record IsElse (state after : State) : Type 0 where
+  base : after.base ≡ state.base
+  marks : after.marks ≡ state.marks
+  acknowledged : after.acknowledged ≡ state.acknowledged
+  pending : after.pending ≡ state.pending
+  mode : after.mode ≡ state.mode
+  flights : after.flights ≡ state.flights
+  logged : after.logged ≡ state.logged
+  entries : after.entries ≡ state.entries
+
+itself : (state : State) → IsElse state state
+itself state = record { base = refl; marks = refl; acknowledged = refl; pending = refl; mode = refl; flights = refl; logged = refl; entries = refl }
+
+dirties : (state : State) (request : Request) (before after : Result Row Reply) → IsElse state (with_rows state before after (λ old new. dirtied state old new (touched old request) (removed old request)))
+dirties state request (Ok before) (Ok after) = record { base = refl; marks = refl; acknowledged = refl; pending = refl; mode = refl; flights = refl; logged = refl; entries = refl }
+dirties state request (Ok before) (Err refused) = itself state
+dirties state request (Err refused) after = itself state
+
+stays_else : (state : State) (request : Request) (after : Rows) → IsChange request → IsElse state (marked_dirty state request after)
+stays_else state (Create path) after is = itself state
+stays_else state (Write path pieces) after is = dirties state (Write path pieces) (walk state.live path) (walk after path)
+stays_else state _ after is = absurd is
+
+-- a call that changes files tells no fault of the disk
+done_calm : (tree : Rows) (request : Request) → IsChange request → answer tree request ≢ reply.WriteFault
+done_calm tree (Create path) is = λ same. let bad : reply.Done ≡ reply.WriteFault = same in cc
+done_calm tree (Write path pieces) is = λ same. let bad : reply.Done ≡ reply.WriteFault = same in cc
+done_calm tree _ is = absurd is
+
+out_calm : (extent : Extent) (tree : Rows) (request : Request) → IsChange request → (told : Reply) → IsRefused extent tree request told → told ≢ reply.WriteFault
+out_calm extent tree request is told (inl stands) = change-refused (limits_of extent) tree request is told stands
+out_calm extent tree request is told (inr (passed, full)) = space-refused (limits_of extent) (effect tree request (limits_of extent).nids) told full
+
+pub changed-calm : (extent : Extent) (old new : Rows) (request : Request) (changed : Changed) → IsChange request → IsChanged extent old new request changed → changed.reply ≢ reply.WriteFault
+changed-calm extent old new request changed is (by_refusal out same none) = out_calm extent old request is changed.reply out
+changed-calm extent old new request changed is (in_place adds took len none) = λ same. done_calm old request is (sym took.reply ∙ same)
+changed-calm extent old new request changed is (by_new_row ino adds took len next fits chosen) = λ same. done_calm old request is (sym took.reply ∙ same)
+
+module _ (extent : Extent) (geometry : IsGeometry extent) (told : Option Contents) (volume : Volume) (before : History) (from : State) (is : IsIn extent told (Some volume) before from) (flat : IsFlat extent volume.files) where
+  some_row : 1 ≤ map.len volume.files
+  some_row = let root = (flat.dense ROOT flat.good.root.0 flat.good.root.1).1 in omega (arith, root)
+
+  below : (len third nids ino : ℕ) → ino ≡ len + ROOT → len + 1 ≤ third → 3 * third + 4 ≤ nids → ino < nids
+  below len third nids ino at fits large = omega (arith, at, fits, large)
+
+  -- the number after the last one is free
+  free_ino : (ino : ℕ) → ino ≡ map.len volume.files + ROOT → map.len volume.files + 1 ≤ node_third extent → IsFreeIno (limits_of extent) from ino
+  free_ino ino at fits = record {
+    above = (let some = some_row in let here : ino ≡ map.len volume.files + 3 = at in omega (arith, some, here));
+    below = below (map.len volume.files) (node_third extent) (nid_limit extent) ino at fits geometry.nids;
+    no_row = ap (λ tree. map.get tree ino) is.known.live ∙ ap (λ i. map.get volume.files i) at ∙ next_free extent volume.files flat;
+    no_base_row = by_row (map.get from.base ino) refl;
+    not_logged = ap (λ s. set.contains s ino) is.logged ∙ set.contains-empty nat_cmp ino;
+  }
+    where
+      by_row : (o : Option Row) → map.get from.base ino ≡ o → o ≡ None
+      by_row None there = refl
+      by_row (Some row) there = let old = is.older ino row there in absurd (omega (arith, old, at))
+
+  module _ {D : Type 0} (disk : D) (after : History) (seat : ℕ) (request : Request) (change : IsChange request) (early : length before.entries < MOST_ENTRIES) where
+    early_state : from.entries < MOST_ENTRIES
+    early_state = let count = is.entries in omega (arith, count, early)
+
+    refusal_is : (first : Option Reply) → refusal (limits_of extent) volume.files request ≡ first → refusal (limits_of extent) from.live request ≡ first
+    refusal_is first so = ap (λ tree. refusal (limits_of extent) tree request) is.known.live ∙ so
+
+    space_is : (want : Option Reply) → space_refusal (limits_of extent) (effect volume.files request (limits_of extent).nids) ≡ want → space_refusal (limits_of extent) (effect from.live request (limits_of extent).nids) ≡ want
+    space_is want so = ap (λ tree. space_refusal (limits_of extent) (effect tree request (limits_of extent).nids)) is.known.live ∙ so
+
+    -- it took effect
+    module _ (new : Rows) (said : Reply) (ino : ℕ) (took : TookEffect extent volume.files new request said ino) (more : map.len volume.files ≤ map.len new) (choices : List ℕ) where
+      abbrev one : Happening
+      one = record { event = Begin seat request; faults = calm; turn = did from seat request (answer from.live request) choices (called from request ino) }
+
+      said_is : answer from.live request ≡ said
+      said_is = ap (λ tree. answer tree request) is.known.live ∙ sym took.reply
+
+      takes : TakesEffect (limits_of extent) from seat request one.turn → after.entries ≡ before.entries ++ entry.Did seat request (outcome_of said) ∷ [] → after.choices ≡ before.choices ++ choices
+          → ComesTo (seen disk extent (Some volume) before) (seen disk extent (Some (record { files = new; stored = volume.stored })) after) told from (Begin seat request) (replied said)
+      takes effect_taken entries chosen =
+          let step = step-takes (limits_of extent) from is.mode early_state is.flights seat request one.turn change (refusal_is None took.none) (space_is None took.space) effect_taken in
+          let rest = stays_else from request (effect from.live request ino) change in
+          let longer = one_more before.entries after.entries (entry.Did seat request (outcome_of said)) entries in
+          let count = is.entries in
+          let counted = rest.entries in
+          let version = is.version in
+          comes disk disk extent (Some volume) (Some (record { files = new; stored = volume.stored })) before after told told from is (Begin seat request) (replied said) (one ∷ []) one.turn.after (step, refl)
+          (inl (short (Begin seat request) (replied said) one refl (ap replied said_is))) (omega arith)
+          (entries ∙ ap (λ r. before.entries ++ entry.Did seat request (outcome_of r) ∷ []) (sym said_is)) (chosen ∙ ap (λ cs. before.choices ++ cs) (sym (append-nil choices))) (record {
+            mode = rest.mode ∙ is.mode;
+            flights = rest.flights ∙ is.flights;
+            marks = rest.marks ∙ is.marks;
+            acknowledged = rest.acknowledged ∙ is.acknowledged;
+            pending = rest.pending ∙ is.pending;
+            logged = rest.logged ∙ is.logged;
+            count = omega (arith, count, counted, longer);
+            flat = subst (IsFlat extent) (sym rest.base) is.flat;
+            older = λ old row there. (let was = is.older old row (ap (λ tree. map.get tree old) (sym rest.base) ∙ there) in omega (arith, was, more));
+            stored = is.stored;
+            version = omega (arith, version, longer);
+            known = record { live = ap (λ tree. effect tree request ino) is.known.live ∙ sym took.tree; told = is.known.told };
+            held = subst (λ tree. IfSome told (λ lists. IsHeld extent lists tree is.stored)) (sym rest.base) is.held;
+          })
+
+    -- it was refused
+    module _ (new : Rows) (said : Reply) (out : IsRefused extent volume.files request said) (same : new ≡ volume.files) where
+      step_out : IsRefused extent volume.files request said → Step (limits_of extent) calm from (Begin seat request) (refused_turn from seat request said)
+      step_out (inl stands) = step-refused (limits_of extent) from is.mode early_state is.flights seat request said (refusal_is (Some said) stands)
+      step_out (inr (passed, full)) = step-kept_out (limits_of extent) from is.mode early_state is.flights seat request said change (refusal_is None passed) (space_is (Some said) full)
+
+      abbrev other : Happening
+      other = record { event = Begin seat request; faults = calm; turn = refused_turn from seat request said }
+
+      refuses : after.entries ≡ before.entries ++ entry.Did seat request (outcome_of said) ∷ [] → after.choices ≡ before.choices ++ []
+          → ComesTo (seen disk extent (Some volume) before) (seen disk extent (Some (record { files = new; stored = volume.stored })) after) told from (Begin seat request) (replied said)
+      refuses entries choices =
+          let longer = one_more before.entries after.entries (entry.Did seat request (outcome_of said)) entries in
+          let count = is.entries in
+          let version = is.version in
+          comes disk disk extent (Some volume) (Some (record { files = new; stored = volume.stored })) before after told told from is (Begin seat request) (replied said) (other ∷ []) other.turn.after (step_out out, refl)
+          (inl (short (Begin seat request) (replied said) other refl refl)) (omega arith) entries choices (record {
+            mode = is.mode;
+            flights = is.flights;
+            marks = is.marks;
+            acknowledged = is.acknowledged;
+            pending = is.pending;
+            logged = is.logged;
+            count = omega (arith, count, longer);
+            flat = is.flat;
+            older = λ old row there. (let was = is.older old row there in let len = ap map.len same in omega (arith, was, len));
+            stored = is.stored;
+            version = omega (arith, version, longer);
+            known = record { live = is.known.live ∙ sym same; told = is.known.told };
+            held = is.held;
+          })
+
+    pub changes : (new : Rows) (changed : Changed) → IsChanged extent volume.files new request changed
+        → after.entries ≡ before.entries ++ entry.Did seat request (outcome_of changed.reply) ∷ [] → after.choices ≡ before.choices ++ option_to_list changed.choice
+        → ComesTo (seen disk extent (Some volume) before) (seen disk extent (Some (record { files = new; stored = volume.stored })) after) told from (Begin seat request) (replied changed.reply)
+    changes new changed (by_refusal out same none) entries choices =
+        refuses new changed.reply out same entries (choices ∙ ap (λ o. before.choices ++ option_to_list o) none)
+    changes new changed (in_place adds took len none) entries choices =
+        takes new changed.reply 0 took (omega (arith, len)) [] (on_false (adds_row request) _ _ adds refl) entries (choices ∙ ap (λ o. before.choices ++ option_to_list o) none)
+    changes new changed (by_new_row ino adds took len next fits chosen) entries choices =
+        takes new changed.reply ino took (omega (arith, len)) (ino ∷ []) (on_true (adds_row request) _ _ adds (ino, free_ino ino next fits, refl)) entries (choices ∙ ap (λ o. before.choices ++ option_to_list o) chosen)
