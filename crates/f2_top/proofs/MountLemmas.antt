@@ -14,7 +14,8 @@ use Rattle.f2_model.specs.State.{State, Mark, initial}
 use Rattle.f2_model.specs.Step as machine
 use Rattle.f2_model.specs.Step.{Faults, Turn, Found, NotMounted, ReadFailed, WriteFailed, BadImage, NoMemory, Step, StepMount}
 use Rattle.f2_laid.specs.Laid.{root_alone}
-use Rattle.f2_core.specs.Seen.{Seen, IsIn, limits_of}
+use Rattle.f2_flat.specs.Flat.{limits_of}
+use Rattle.f2_core.specs.Seen.{Seen, IsIn}
 use Rattle.f2_core.specs.Events.{IsMade, IsMount}
 use Rattle.f2_script.specs.declared.script.Line.{Line}
 use Rattle.f2_script.specs.declared.script.Line.TheVariants.{Mkfs}

@@ -9,7 +9,8 @@ use Rattle.std.proofs.Math.Seq.{take-append_seam}
 use Rattle.f2_disk.specs.Contents.{Contents}
 use Rattle.f2_model.specs.declared.bounds.Limits.{Limits}
 use Rattle.f2_model.specs.State.{State}
-use Rattle.f2_core.specs.Seen.{Seen, limits_of}
+use Rattle.f2_flat.specs.Flat.{limits_of}
+use Rattle.f2_core.specs.Seen.{Seen}
 use Rattle.f2_script.specs.declared.script.Line.{Line}
 use Rattle.f2_top.specs.Plays.{Part, PlaysLine, PlaysLines, IsSafeWhereTold, text_of}
 use Rattle.f2_top.specs.Runs.{IsAt, PlaysAs, PlaysOn, PlaysTo, PlaysFrom, SomePrint, SomeCut}

@@ -39,6 +39,7 @@ synced-seat text seat (inr (limits, words)) zero = let low : 1 ≤ seat = seat-l
 playable-line : (text : List ℕ) (line : Line) → IsLine text line → takes grammar.Replay line ≡ true → MayFollow true line → IsPlayable line
 playable-line text (Mkfs blocks nat) is taken follows = let e : true ≡ false = follows in absurd (cc)
 playable-line text (Call seat (request.Create path)) is taken follows = tt
+playable-line text (Call seat (request.Write path pieces)) is taken follows = tt
 playable-line text (Call seat request.Sync) is taken follows = synced-seat text seat is
 playable-line text (Crash pick) is taken follows = tt
 playable-line text kind.Mount is taken follows = tt

@@ -15,7 +15,8 @@ use Rattle.f2_model.specs.Run.{Happening, Happened}
 use Rattle.f2_disk.specs.Contents.{Contents}
 use Rattle.f2_image.specs.Meanings.{IsSafe}
 use Rattle.f2_laid.specs.Laid.{root_alone}
-use Rattle.f2_core.specs.Seen.{limits_of, live_where_up}
+use Rattle.f2_flat.specs.Flat.{limits_of}
+use Rattle.f2_core.specs.Seen.{live_where_up}
 use Rattle.f2_core.specs.Events.{IsCall, IsMount, IsShort}
 use Rattle.f2_script.specs.declared.script.Line.{Line}
 use Rattle.f2_script.specs.declared.script.Line.TheVariants.{Mkfs, Call, Crash, Tree}

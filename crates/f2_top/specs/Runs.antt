@@ -1,18 +1,19 @@
 -- What is written while the lines of a script are run, by the status that the run comes to.
-use Rattle.std.specs.Prelude.{◌≡◌, ◌≢◌, ℕ, false, List, [], ◌∷◌, take, Option, None, IsSome}
+use Rattle.std.specs.Prelude.{◌≡◌, ℕ, false, List, [], ◌∷◌, take, Option, None, IsSome}
 use Rattle.std.specs.List.{AllByRecursion}
 use Rattle.f2_format.specs.Geometry.{Extent}
 use Rattle.f2_disk.specs.Contents.{Contents}
 use Rattle.f2_disk.specs.Meter.{Meter}
 use Rattle.f2_layout.specs.declared.geometry.Limit.{Limit}
 use Rattle.f2_model.specs.declared.bounds.Limits.{Limits}
-use Rattle.f2_model.specs.declared.requests.Request.TheVariants.{Create, Sync}
 use Rattle.f2_model.specs.State.{State, initial}
 use Rattle.f2_model.specs.Run.{Happening, Happened}
-use Rattle.f2_model.specs.Step.{Event, Answer, MOUNT_SEAT}
+use Rattle.f2_model.specs.Step.{Event, Answer}
 use Rattle.f2_laid.specs.Laid.{root_alone}
-use Rattle.f2_core.specs.Events.{ComesTo, IsMount}
-use Rattle.f2_core.specs.Seen.{Seen, IsIn, limits_of}
+use Rattle.f2_flat.specs.Flat.{limits_of}
+use Rattle.f2_core.specs.declared.events.Event.TheVariants.{Begin}
+use Rattle.f2_core.specs.Events.{ComesTo, IsMount, IsServed}
+use Rattle.f2_core.specs.Seen.{Seen, IsIn}
 use Rattle.f2_script.specs.declared.script.Line.{Line}
 use Rattle.f2_script.specs.declared.script.Line.TheVariants.{Mkfs, Call, Crash, Tree}
 use Rattle.f2_script.specs.declared.script.Line.TheVariants as kind
@@ -23,10 +24,9 @@ use Rattle.f2_top.specs.Reads.{TakesScript, TakesSome}
 use Rattle.f2_top.specs.Replay.{BreaksLimit, Prints, IsCutOff, IsUnread}
 use Rattle.f2_top.specs.Streams.{IsCutAfter}
 
--- the lines that follow a `mkfs` line so far
+-- the lines that follow a `mkfs` line so far: of calls those that a core takes
 abbrev pub IsPlayable : Line → Type 0
-IsPlayable (Call seat (Create path)) = Unit {0}
-IsPlayable (Call seat Sync) = seat ≢ MOUNT_SEAT
+IsPlayable (Call seat request) = IsServed (Begin seat request)
 IsPlayable (Crash pick) = Unit {0}
 IsPlayable kind.Mount = Unit {0}
 IsPlayable Tree = Unit {0}

@@ -7,7 +7,7 @@ ghost use Rattle.f2_disk.specs.Faults.{Rose};
 ghost use Rattle.f2_core.specs.Events.{IsMade, IsServed, answer_of, event_of};
 ghost use Rattle.f2_layout.specs.Refusal.{geometry_of};
 ghost use Rattle.f2_model.specs.State.{State};
-ghost use Rattle.f2_core.specs.Seen.{limits_of};
+ghost use Rattle.f2_flat.specs.Flat.{limits_of};
 ghost use Rattle.f2_core.specs.declared.events.Event.TheVariants as event;
 ghost use Rattle.f2_script.specs.declared.script.Line.TheVariants as line;
 ghost use Rattle.f2_script.specs.Replies.{reply_spelling};

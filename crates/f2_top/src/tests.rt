@@ -1,146 +1,141 @@
-//! Worked scripts, through the top call.
+//! Worked scripts, through the top call: one table of commands and what they print, and a script whose reads and writes
+//! fail one after another.
 
 use crate::{Status, run_plain};
-use f2_disk::{MemBench, MemDisk, MemSink, MemSource, SureSource};
-use f2_layout::Limit;
+use f2_disk::{MemBench, MemDisk, MemSink, MemSource};
 use std::alloc::{AllocError, Global};
+use std::test::Fail;
 
-/// Whether a run with these words ends so, and prints this.
-fn prints(
+/// In each line a name, the words of a command, its script, the number that it ends with, and all that is printed. A
+/// `;` ends a line of a script and of what is printed.
+const TABLE: &str = "empty script|replay||0|
+fresh image|replay|mkfs 128 1;tree|0|ok mkfs 9 30;/ dir
+too few blocks|replay|mkfs 127 1|8|f2n: geometry blocks 127
+checkpoint survives|replay|mkfs 128 1;call 1 create /a;call 1 write /a 0 1 65 1 1 66;call 1 sync;crash 0;mount;tree|0|ok mkfs 9 30;ok;ok;ok sync;ok;ok mount 0;/ dir;/a file 2 1 197
+node zone full|replay|mkfs 128 1;call 1 create /1;call 1 create /2;call 1 create /3;call 1 create /4;call 1 create /5;call 1 create /6;call 1 create /7;call 1 create /8;call 1 create /9|0|ok mkfs 9 30;ok;ok;ok;ok;ok;ok;ok;ok;nospace node 10 9
+data zone full|replay|mkfs 128 1;call 1 create /a;call 1 write /a 0 65536 1;call 1 write /a 65536 65536 1;call 1 write /a 65536 53248 1|0|ok mkfs 9 30;ok;ok;nospace data 33 30;ok
+unknown line|replay|mkfs 128 1;cal 1 sync|3|f2n: script line 2
+unknown words|replay x||1|f2n: usage
+no words|||1|f2n: usage
+no checkpoint|replay|mkfs 128 1;call 1 create /a;crash 0;call 1 write /a 0 1 65;tree;mount;tree|0|ok mkfs 9 30;ok;ok;closed;closed;ok mount 0;/ dir
+open already|replay|mkfs 128 1;mount;call 1 sync;call 2 create /a|0|ok mkfs 9 30;mounted;ok sync;ok";
+
+/// The text with a byte 10 at the end of each line.
+fn lines(alloc: Global, text: &str) -> Result<Vec<u8>, AllocError> {
+    let mut lines = Vec::new(alloc);
+    for byte in text.as_bytes() {
+        lines.push(if *byte == b';' { b'\n' } else { *byte })?;
+    }
+    if !text.is_empty() {
+        lines.push(b'\n')?;
+    }
+    Ok(lines)
+}
+
+/// The words between the spaces of a text.
+fn words(alloc: Global, text: &str) -> Result<Vec<String>, AllocError> {
+    let mut words = Vec::new(alloc);
+    for word in text.split(' ') {
+        words.push(String::from_str(alloc, word)?)?;
+    }
+    Ok(words)
+}
+
+/// How a command ends, and all that is printed, where these reads and writes fail.
+fn run(
     alloc: Global,
     words: &[String],
     script: &[u8],
-    want: Status,
-    text: &[u8],
-) -> Result<bool, AllocError> {
-    let mut source = SureSource::new(alloc, script)?;
-    let mut sink = MemSink::new(alloc, 256, &[])?;
-    let bench = MemBench::new(alloc)?;
-    let disk = MemDisk::new(alloc, 0)?;
-    let (status, _, _) = run_plain(alloc, words, &mut source, &mut sink, bench, disk);
-    Ok(status == want && sink.bytes() == text)
-}
-
-/// Whether a `replay` ends so, and prints this, where these reads and writes fail.
-fn prints_faulty(
-    alloc: Global,
     reads: &[u32],
     writes: &[u32],
-    want: Status,
-    text: &[u8],
-) -> Result<bool, AllocError> {
-    let words = [String::from_str(alloc, "replay")?];
-    let mut source = MemSource::new(alloc, b"mkfs 128 1\ntree\n", reads)?;
+) -> Result<(Status, Vec<u8>), AllocError> {
+    let mut source = MemSource::new(alloc, script, reads)?;
     let mut sink = MemSink::new(alloc, 256, writes)?;
     let bench = MemBench::new(alloc)?;
     let disk = MemDisk::new(alloc, 0)?;
-    let (status, _, _) = run_plain(alloc, &words, &mut source, &mut sink, bench, disk);
-    Ok(status == want && sink.bytes() == text)
+    let (status, _, _) = run_plain(alloc, words, &mut source, &mut sink, bench, disk);
+    let text = Vec::from_slice(alloc, sink.bytes())?;
+    Ok((status, text))
 }
 
-/// Whether a `replay` of this script is done, and prints this.
-fn replays(alloc: Global, script: &[u8], text: &[u8]) -> Result<bool, AllocError> {
-    let words = [String::from_str(alloc, "replay")?];
-    prints(alloc, &words, script, Status::Done, text)
+/// Whether a command ends, and prints, as its line of the table says.
+fn is_as_said(alloc: Global, row: &str) -> Result<bool, AllocError> {
+    let mut parts = row.split('|').skip(1);
+    let words = words(alloc, parts.next().unwrap_or(""))?;
+    let script = lines(alloc, parts.next().unwrap_or(""))?;
+    let number = parts.next().unwrap_or("").parse().unwrap_or(u8::MAX);
+    let printed = lines(alloc, parts.next().unwrap_or(""))?;
+    let (status, text) = run(alloc, words.as_slice(), script.as_slice(), &[], &[])?;
+    Ok(status.number() == number && text.as_slice() == printed.as_slice())
 }
 
 #[test]
-fn scripts(rt: HostRuntime) -> Result<(), AllocError> {
-    let alloc = rt.alloc();
-    let rows: [(&[u8], &[u8]); 3] = [
-        (b"", b""),
-        (b"mkfs 128 1\ntree\n", b"ok mkfs 9 30\n/ dir\n"),
-        (
-            b"mkfs 128 1\ncall 1 create /a\ntree",
-            b"ok mkfs 9 30\nok\n/ dir\n/a file 0 0 0\n",
-        ),
-    ];
-    for (script, text) in rows {
-        assert!(rt; replays(alloc, script, text)?);
+fn commands_print_what_is_said(rt: HostRuntime) -> Result<(), Fail> {
+    for row in TABLE.lines() {
+        assert!(rt; is_as_said(rt.alloc(), row)?, "{row}");
     }
     Ok(())
 }
 
 #[test]
-fn refused_scripts(rt: HostRuntime) -> Result<(), AllocError> {
+fn a_script_may_be_too_long(rt: HostRuntime) -> Result<(), Fail> {
     let alloc = rt.alloc();
-    let words = [String::from_str(alloc, "replay")?];
-    let too_few = Status::Geometry {
-        limit: Limit::Blocks,
-        value: 127,
-    };
-    let text = b"f2n: geometry blocks 127\n";
-    assert!(rt; prints(alloc, &words, b"mkfs 127 1\n", too_few, text)?);
-    let second = Status::Script { line: 2 };
-    let script = b"mkfs 128 1\ncal 1 sync\n";
-    assert!(rt; prints(alloc, &words, script, second, b"f2n: script line 2\n")?);
+    let words = words(alloc, "replay")?;
+    let script = vec![in alloc; b'a'; 1_048_577]?;
+    let (status, text) = run(alloc, words.as_slice(), script.as_slice(), &[], &[])?;
+    assert_eq!(rt; status, Status::TooLong);
+    assert_eq!(rt; text.as_slice(), b"f2n: toolong\n".as_slice());
     Ok(())
 }
 
-#[test]
-fn syncs_crashes_and_mounts(rt: HostRuntime) -> Result<(), AllocError> {
-    let alloc = rt.alloc();
-    let rows: [(&[u8], &[u8]); 3] = [
-        (
-            b"mkfs 128 1\ncall 1 create /a\ncall 1 sync\ncrash 0\nmount\ntree\n",
-            b"ok mkfs 9 30\nok\nok sync\nok\nok mount 0\n/ dir\n/a file 0 0 0\n",
-        ),
-        (
-            b"mkfs 128 1\ncall 1 create /a\ncrash 0\ncall 1 create /b\ntree\nmount\ntree\n",
-            b"ok mkfs 9 30\nok\nok\nclosed\nclosed\nok mount 0\n/ dir\n",
-        ),
-        (
-            b"mkfs 128 1\nmount\ncall 1 sync\ncall 2 create /a\n",
-            b"ok mkfs 9 30\nmounted\nok sync\nok\n",
-        ),
-    ];
-    for (script, text) in rows {
-        assert!(rt; replays(alloc, script, text)?);
+/// A script whose file is there after a crash.
+const SURVIVES: &str =
+    "mkfs 128 1;call 1 create /a;call 1 write /a 0 1 65 1 1 66;call 1 sync;crash 0;mount;tree";
+
+/// What it prints, a `|` between each two writes to its sink: each line of the script prints by one write.
+const PRINTED: &str = "ok mkfs 9 30|ok|ok|ok sync|ok|ok mount 0|/ dir;/a file 2 1 197";
+
+/// What the first so many writes to its sink print.
+fn first_writes(alloc: Global, count: usize) -> Result<Vec<u8>, AllocError> {
+    let mut text = Vec::new(alloc);
+    for part in PRINTED.split('|').take(count) {
+        text.extend_from_slice(lines(alloc, part)?.as_slice())?;
     }
-    Ok(())
+    Ok(text)
 }
 
-/// A script with as many files as nine nodes have room for, and one more.
-const NINE_FILES: &[u8] = b"mkfs 128 1\n\
-call 1 create /1\n\
-call 1 create /2\n\
-call 1 create /3\n\
-call 1 create /4\n\
-call 1 create /5\n\
-call 1 create /6\n\
-call 1 create /7\n\
-call 1 create /8\n\
-call 1 create /9\n";
-
-#[test]
-fn no_node_is_left(rt: HostRuntime) -> Result<(), AllocError> {
-    let alloc = rt.alloc();
-    let text = b"ok mkfs 9 30\nok\nok\nok\nok\nok\nok\nok\nok\nnospace node 10 9\n";
-    assert!(rt; replays(alloc, NINE_FILES, text)?);
-    Ok(())
+/// Whether that script ends so where these reads and writes fail, and prints what its first so many writes do.
+fn ends_after(
+    alloc: Global,
+    count: usize,
+    want: Status,
+    reads: &[u32],
+    writes: &[u32],
+) -> Result<bool, AllocError> {
+    let words = words(alloc, "replay")?;
+    let script = lines(alloc, SURVIVES)?;
+    let printed = first_writes(alloc, count)?;
+    let (status, text) = run(alloc, words.as_slice(), script.as_slice(), reads, writes)?;
+    Ok(status == want && text.as_slice() == printed.as_slice())
 }
 
 #[test]
-fn words_and_lengths(rt: HostRuntime) -> Result<(), AllocError> {
+fn each_read_and_write_may_fail(rt: HostRuntime) -> Result<(), Fail> {
     let alloc = rt.alloc();
-    let long = vec![in alloc; b'a'; 1_048_577]?;
-    let one = [String::from_str(alloc, "replay")?];
-    assert!(rt; prints(alloc, &one, &long, Status::TooLong, b"f2n: toolong\n")?);
-    let two = [
-        String::from_str(alloc, "replay")?,
-        String::from_str(alloc, "x")?,
-    ];
-    assert!(rt; prints(alloc, &two, b"", Status::Usage, b"f2n: usage\n")?);
-    assert!(rt; prints(alloc, &[], b"", Status::Usage, b"f2n: usage\n")?);
-    Ok(())
-}
-
-#[test]
-fn faults(rt: HostRuntime) -> Result<(), AllocError> {
-    let alloc = rt.alloc();
-    assert!(rt; prints_faulty(alloc, &[1], &[], Status::SourceFault, b"")?);
-    assert!(rt; prints_faulty(alloc, &[2], &[], Status::SourceFault, b"")?);
-    assert!(rt; prints_faulty(alloc, &[], &[1], Status::SinkFault, b"")?);
-    assert!(rt; prints_faulty(alloc, &[], &[2], Status::SinkFault, b"ok mkfs 9 30\n")?);
+    // The first read gives the whole script, and the second finds its end.
+    for n in 1..3 {
+        assert!(rt;
+            ends_after(alloc, 0, Status::SourceFault, &[n], &[])?,
+            "read {n}"
+        );
+    }
+    for n in 0..7 {
+        assert!(rt;
+            ends_after(alloc, n as usize, Status::SinkFault, &[], &[n + 1])?,
+            "write {n}"
+        );
+    }
+    // There is no third read and no eighth write.
+    assert!(rt; ends_after(alloc, 7, Status::Done, &[3], &[8])?);
     Ok(())
 }
