@@ -41,17 +41,19 @@ pub record BindsNames (tree : Rows) (names : Entries) : Type 0 where
   pub bound : (ino : ℕ) (row : Row) → map.get tree ino ≡ Some row → ino ≢ ROOT → map.get names row.name ≡ Some (ino, Regular)
   pub only : (name : List ℕ) (ino : ℕ) (kind : Kind) → map.get names name ≡ Some (ino, kind) → (row : Row) × (map.get tree ino ≡ Some row) × (ino ≢ ROOT) × (row.name ≡ name)
 
--- the name slots that a row takes in its directory, and those of all rows of a tree
+-- the name slots that a row takes in its directory
 abbrev pub slots_of_row : Row → ℕ
 slots_of_row row = slots_of_name row.name
 
+-- those of all rows of a tree
 abbrev pub slots_of_tree : Rows → ℕ
 slots_of_tree tree = sum_by slots_of_row (map.values tree)
 
--- the pages of a row, and those of all rows of a tree
+-- how many pages a row has
 abbrev pub pages_of_row : Row → ℕ
 pages_of_row row = map.len row.pages
 
+-- how many all rows of a tree have
 abbrev pub pages_of_tree : Rows → ℕ
 pages_of_tree tree = sum_by pages_of_row (map.values tree)
 

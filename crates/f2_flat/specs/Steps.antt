@@ -44,10 +44,11 @@ AddsRow limit old new ino name result = MatchResult result
     (λ told. (told ≡ told_beyond Data (data_of_tree (with_file old ino name)) limit) × MatchOption told (new ≡ with_file old ino name) (λ refused. new ≡ old))
     (λ error. new ≡ old)
 
--- a row with pieces put into it, and a tree with that row
+-- a row with pieces put into it
 abbrev pub row_with : Row → List Piece → Row
 row_with row pieces = record row { size = raised_size row.size pieces; pages = put_pieces row.pages pieces }
 
+-- a tree with pieces put into one of its rows
 abbrev pub with_pieces : Rows → Row → List Piece → Rows
 with_pieces tree row pieces = map.insert tree row.ino (row_with row pieces)
 

@@ -1,5 +1,5 @@
 //! Counts of what the rows of a tree take.
-ghost use Rattle.std.specs.Prelude.{◌≡◌, ◌^◌, ◌<◌};
+ghost use Rattle.std.specs.Prelude.{◌≡◌};
 ghost use Rattle.f2_format.specs.Packing.{slots_of_name};
 
 use f2_model::Name;

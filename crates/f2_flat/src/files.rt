@@ -1,5 +1,5 @@
 //! Files in the root alone.
-ghost use Rattle.std.specs.Prelude.{◌≡◌, ◌≤◌, IfOk, None};
+ghost use Rattle.std.specs.Prelude.{◌≡◌, IfOk, None};
 ghost use Rattle.std.specs.FinMap as map;
 ghost use Rattle.f2_laid.specs.Laid.{IsStorable};
 ghost use Rattle.f2_flat.specs.Flat.{IsFlat};
@@ -21,7 +21,7 @@ use f2_plain_calls::ROOT;
 use std::alloc::{AllocError, Global};
 use std::marker::Model;
 
-/// A tree of files in the root alone.
+/// A tree of files in the root alone, with their names and the counts of what they take kept beside it.
 #[derive(Drop)]
 pub struct Files {
     tree: Tree,

@@ -1,5 +1,5 @@
 //! Whether an image has data blocks for a tree.
-ghost use Rattle.std.specs.Prelude.{◌≡◌, ◌+◌, ◌<◌, ◌^◌, ◌≤◌, IfOk};
+ghost use Rattle.std.specs.Prelude.{◌≡◌, ◌+◌, IfOk};
 ghost use Rattle.f2_model.specs.Count.{data_of_tree};
 ghost use Rattle.f2_model.specs.declared.replies.Space.TheVariants as space;
 ghost use Rattle.f2_flat.specs.Kept.{HasRootFiles, AreCounts};

@@ -75,6 +75,8 @@ fn stub(alloc: Global, ino: u32) -> Row
 }
 
 /// Puts pieces into the file of an ino, where these are the pages that they bring. Where memory is refused the tree stays.
+///
+/// The row is taken out of the tree, changed and put back, so nothing of it is copied.
 pub(crate) fn put_pieces(
     alloc: Global,
     tree: &mut Tree,
@@ -92,6 +94,7 @@ pub(crate) fn put_pieces(
             let _ = tree.replace(row);
             done
         }
+        // The file is there, so a row comes out.
         Err(_) => unreachable!(),
     }
 }
