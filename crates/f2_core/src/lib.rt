@@ -21,8 +21,6 @@ mod entries;
 mod events;
 mod machine;
 mod outcomes;
-#[cfg(test)]
-mod tests;
 mod volumes;
 
 pub use events::{Answer, Event, MountFault};

@@ -18,8 +18,6 @@ mod files;
 mod rooms;
 mod rows;
 mod takes;
-#[cfg(test)]
-mod tests;
 mod walks;
 mod writes;
 

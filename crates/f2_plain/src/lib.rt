@@ -13,8 +13,6 @@ mod goes;
 mod machine;
 mod mounts;
 mod outcomes;
-#[cfg(test)]
-mod tests;
 mod ticks;
 
 pub use events::{Answer, Choices, Event, Extent};

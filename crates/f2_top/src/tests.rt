@@ -1,8 +1,12 @@
 //! Worked scripts, through the top call: one table of commands and what they print, and a script whose reads and writes
-//! fail one after another.
+//! fail one after another; and the one call of the core that no script makes.
+ghost use Rattle.f2_core.specs.Events.{IsServed};
 
 use crate::{Status, run_plain};
-use f2_disk::{MemBench, MemDisk, MemSink, MemSource};
+use f2_core::{Core, Event, making_writes};
+use f2_disk::{Bench, Disk, MemBench, MemDisk, MemSink, MemSource};
+use f2_layout::Geometry;
+use f2_model::Request;
 use std::alloc::{AllocError, Global};
 use std::test::Fail;
 
@@ -18,7 +22,10 @@ unknown line|replay|mkfs 128 1;cal 1 sync|3|f2n: script line 2
 unknown words|replay x||1|f2n: usage
 no words|||1|f2n: usage
 no checkpoint|replay|mkfs 128 1;call 1 create /a;crash 0;call 1 write /a 0 1 65;tree;mount;tree|0|ok mkfs 9 30;ok;ok;closed;closed;ok mount 0;/ dir
-open already|replay|mkfs 128 1;mount;call 1 sync;call 2 create /a|0|ok mkfs 9 30;mounted;ok sync;ok";
+open already|replay|mkfs 128 1;mount;call 1 sync;call 2 create /a|0|ok mkfs 9 30;mounted;ok sync;ok
+refused creates|replay|mkfs 128 1;call 1 create /a//b;call 1 create /;call 1 create /a;call 1 create /a;call 1 create /a/b;call 1 create /b/c|0|ok mkfs 9 30;badname;exists;ok;exists;notdir;noent
+refused writes|replay|mkfs 128 1;call 1 create /a;call 1 write /a//b 0 1 1;call 1 write / 0 1 1;call 1 write /b 0 1 1;call 1 write /a/b 0 1 1;call 1 write /a 3780608 1 1;call 1 write /a 18446744073709551615 1 1|0|ok mkfs 9 30;ok;badname;isdir;noent;notdir;toobig;toobig
+last data block|replay|mkfs 128 1;call 1 create /a;call 1 write /a 0 65536 1;call 1 write /a 61440 57344 1;call 1 write /a 3776512 1 1;call 1 write /a 0 65536 1|0|ok mkfs 9 30;ok;ok;ok;nospace data 31 30;ok";
 
 /// The text with a byte 10 at the end of each line.
 fn lines(alloc: Global, text: &str) -> Result<Vec<u8>, AllocError> {
@@ -137,5 +144,43 @@ fn each_read_and_write_may_fail(rt: HostRuntime) -> Result<(), Fail> {
     }
     // There is no third read and no eighth write.
     assert!(rt; ends_after(alloc, 7, Status::Done, &[3], &[8])?);
+    Ok(())
+}
+
+/// A closed core on a new image of 128 blocks.
+fn core(alloc: Global) -> Result<Core<MemBench>, Fail> {
+    let geometry = Geometry::new(128, 1)?;
+    let mut bench = MemBench::new(alloc)?;
+    bench.start(128)?;
+    bench.ready(making_writes(&geometry))?;
+    if bench.blocks() < geometry.blocks() {
+        return Err("a bench of 128 blocks".into());
+    }
+    match Core::made(alloc, bench, geometry) {
+        Ok(core) => Ok(core),
+        Err(_) => Err("an image".into()),
+    }
+}
+
+/// A seat makes a checkpoint.
+fn sync() -> Event
+    ensures { IsServed result }
+{
+    Event::Begin {
+        seat: 1,
+        request: Request::Sync,
+    }
+}
+
+#[test]
+fn a_core_runs_events_in_order(rt: HostRuntime) -> Result<(), Fail> {
+    let mut core = core(rt.alloc())?;
+    core.ready(500)?;
+    let mut events = Vec::new(rt.alloc());
+    events.push(Event::Mount)?;
+    events.push(sync())?;
+    let answers = core.run(events)?;
+    assert_eq!(rt; answers.len(), 2);
+    assert_eq!(rt; core.into_disk().blocks(), 128);
     Ok(())
 }
