@@ -27,7 +27,7 @@ use Rattle.f2_core.specs.declared.changes.Changed.{Changed}
 use Rattle.f2_core.specs.declared.volumes.Volume.{Volume}
 use Rattle.f2_core.proofs.Grown.{next_free}
 use Rattle.f2_core.proofs.Refusals.{change-refused, space-refused}
-use Rattle.f2_core.proofs.Runs.{calm}
+use Rattle.f2_core.proofs.Runs.{calm, quiet-calm}
 use Rattle.f2_core.proofs.Steps.{on_false, on_true, refused_turn, step-refused, step-kept_out, step-takes}
 use Rattle.f2_core.proofs.Comes.{seen, comes, short}
 
@@ -122,7 +122,7 @@ module _ (extent : Extent) (geometry : IsGeometry extent) (told : Option Content
           let counted = rest.entries in
           let version = is.version in
           comes disk disk extent (Some volume) (Some (record { files = new; stored = volume.stored })) before after told told from is (Begin seat request) (replied said) (one ∷ []) one.turn.after (step, refl)
-          (inl (short (Begin seat request) (replied said) one refl (ap replied said_is))) (omega arith)
+          (inl (short (Begin seat request) (replied said) one refl (ap replied said_is) quiet-calm)) (omega arith)
           (entries ∙ ap (λ r. before.entries ++ entry.Did seat request (outcome_of r) ∷ []) (sym said_is)) (chosen ∙ ap (λ cs. before.choices ++ cs) (sym (append-nil choices))) (record {
             mode = rest.mode ∙ is.mode;
             flights = rest.flights ∙ is.flights;
@@ -155,7 +155,7 @@ module _ (extent : Extent) (geometry : IsGeometry extent) (told : Option Content
           let count = is.entries in
           let version = is.version in
           comes disk disk extent (Some volume) (Some (record { files = new; stored = volume.stored })) before after told told from is (Begin seat request) (replied said) (other ∷ []) other.turn.after (step_out out, refl)
-          (inl (short (Begin seat request) (replied said) other refl refl)) (omega arith) entries choices (record {
+          (inl (short (Begin seat request) (replied said) other refl refl quiet-calm)) (omega arith) entries choices (record {
             mode = is.mode;
             flights = is.flights;
             marks = is.marks;

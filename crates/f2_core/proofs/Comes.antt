@@ -16,10 +16,10 @@ use Rattle.f2_laid.specs.Laid.{root_alone}
 use Rattle.f2_laid.specs.declared.stored.Stored.{Stored}
 use Rattle.f2_flat.specs.Flat.{IsFlat, limits_of}
 use Rattle.f2_core.specs.Seen.{Seen, IsHeld, IsIn, Knows, mode_of}
-use Rattle.f2_core.specs.Events.{StandsFor, IsShort, MOST_LEFT, GoesTo, ComesTo}
+use Rattle.f2_core.specs.Events.{StandsFor, IsQuiet, IsShort, MOST_LEFT, GoesTo, ComesTo}
 use Rattle.f2_core.specs.declared.volumes.Volume.{Volume}
-use Rattle.f2_core.proofs.Held.{means, left-alone, held-storable}
-use Rattle.f2_core.proofs.Runs.{calm, run-append}
+use Rattle.f2_core.proofs.Held.{means, left-alone, image-alone, held-storable}
+use Rattle.f2_core.proofs.Runs.{calm, quiet-calm, run-append}
 
 -- what contracts see of a core
 abbrev pub seen : {D : Type 0} → D → Extent → Option Volume → History → Seen D
@@ -86,11 +86,14 @@ safe extent told volume entries state is = by_told told is.held
 
     by_told : (o : Option Contents) → IfSome o (λ lists. IsHeld extent lists state.base is.stored) → IfSome o (λ lists. IsSafe lists state)
     by_told None held = tt
-    by_told (Some lists) held = λ image left.
-        let same : image ≡ held.image = left-alone held.image image (subst (λ l. IsImage l image) held.one left) in
-        let can = held-storable extent lists state.base is.stored held is.flat in
-        let both = means held.image held.laid.0 state.base is.stored can held.laid.1 in
-        subst (IsLeft state) (sym same) (record { point = held.laid.0; base = state.base; marks = []; remains = remains; means = both.0; clean = both.1 })
+    by_told (Some lists) held = (
+      (held.image, subst (λ l. IsImage l held.image) (sym held.one) (image-alone held.image)),
+      (λ image left.
+          let same : image ≡ held.image = left-alone held.image image (subst (λ l. IsImage l image) held.one left) in
+          let can = held-storable extent lists state.base is.stored held is.flat in
+          let both = means held.image held.laid.0 state.base is.stored can held.laid.1 in
+          subst (IsLeft state) (sym same) (record { point = held.laid.0; base = state.base; marks = []; remains = remains; means = both.0; clean = both.1 })),
+    )
 
 module _ {D : Type 0} (disk after_disk : D) (extent : Extent) (volume after_volume : Option Volume) (before after : History) (was told : Option Contents) (from : State) (is : IsIn extent was volume before from) where
   -- a core goes on by events to a state that it is in then
@@ -120,8 +123,8 @@ module _ {D : Type 0} (disk after_disk : D) (extent : Extent) (volume after_volu
 abbrev pub once : Event → Answer → State → Happening
 once event answer state = record { event = event; faults = calm; turn = unchanged state answer }
 
-pub short : (event : Event) (answer : Answer) (one : Happening) → one.event ≡ event → one.turn.answer ≡ answer → IsShort event answer (one ∷ [])
-short event answer one begun answered = record { one = one; whole = refl; begun = begun; answered = answered }
+pub short : (event : Event) (answer : Answer) (one : Happening) → one.event ≡ event → one.turn.answer ≡ answer → IsQuiet one → IsShort event answer (one ∷ [])
+short event answer one begun answered quiet = record { one = one; whole = refl; begun = begun; answered = answered; quiet = quiet }
 
 -- an event that changes nothing
 module _ {D : Type 0} (disk after_disk : D) (extent : Extent) (volume : Option Volume) (before after : History) (was told : Option Contents) (from : State) (is : IsIn extent was volume before from) where
@@ -130,5 +133,5 @@ module _ {D : Type 0} (disk after_disk : D) (extent : Extent) (volume : Option V
       → ComesTo (seen disk extent volume before) (seen after_disk extent volume after) told from event answer
   stays event answer step stands entries choices same =
       comes disk after_disk extent volume volume before after was told from is event answer (once event answer from ∷ []) from (step, (λ i. record from { entries = add-zero from.entries i }))
-      (stands (short event answer (once event answer from) refl refl)) (omega arith) (entries ∙ sym (append-nil before.entries)) (choices ∙ sym (append-nil before.choices))
+      (stands (short event answer (once event answer from) refl refl quiet-calm)) (omega arith) (entries ∙ sym (append-nil before.entries)) (choices ∙ sym (append-nil before.choices))
       (subst (λ n. IsAt extent told volume n from) (sym (ap length entries)) (subst (λ t. IsAt extent t volume (length before.entries) from) (sym same) (at_of extent was volume before from is)))

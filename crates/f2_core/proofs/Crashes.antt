@@ -16,7 +16,7 @@ use Rattle.f2_core.specs.Seen.{IsHeld, IsIn}
 use Rattle.f2_core.specs.Events.{HasCrashed}
 use Rattle.f2_core.specs.declared.volumes.Volume.{Volume}
 use Rattle.f2_core.proofs.Held.{left-alone}
-use Rattle.f2_core.proofs.Runs.{calm}
+use Rattle.f2_core.proofs.Runs.{calm, quiet-calm}
 use Rattle.f2_core.proofs.Comes.{seen, goes}
 
 -- a disk with one image has it after a crash
@@ -48,6 +48,7 @@ crashes disk after_disk extent volume before room after was told pick spare take
     record {
       one = crash_of from;
       event = refl;
+      quiet = quiet-calm;
       happened = (refl, refl);
       few = omega arith;
       closed = refl;

@@ -40,6 +40,11 @@ left-alone [] (block ∷ left) is = absurd is
 left-alone (content ∷ image) [] is = absurd is
 left-alone (content ∷ image) (block ∷ left) is = λ i. only_one content block is.0 i ∷ left-alone image left is.1 i
 
+-- and that is one that a crash leaves
+pub image-alone : (image : Image) → IsImage (alone image) image
+image-alone [] = tt
+image-alone (content ∷ image) = ((zero, omega arith, refl), image-alone image)
+
 sized_geometry : (image : Image) (extent : Extent) → IsSized image extent → IsGeometry extent
 sized_geometry image extent (by_first right is) = subst IsGeometry (sym is) right.geometry
 sized_geometry image extent (by_second other right is) = subst IsGeometry (sym is) right.geometry

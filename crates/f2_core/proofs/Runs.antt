@@ -1,10 +1,10 @@
 -- Runs that go on.
-use Rattle.std.proofs.Common.{◌≡◌, ℕ, List, [], ◌∷◌, ◌++◌, refl, ap, sym, ◌∙◌, subst, append_assoc}
+use Rattle.std.proofs.Common.{◌≡◌, ℕ, List, [], ◌∷◌, ◌++◌, refl, ap, sym, ◌∙◌, subst, append_assoc, arith}
 use Rattle.std.specs.List.{flat_map}
 use Rattle.f2_model.specs.declared.bounds.Limits.{Limits}
 use Rattle.f2_model.specs.declared.histories.Entry.{Entry}
 use Rattle.f2_model.specs.State.{State}
-use Rattle.f2_model.specs.Step.{Faults}
+use Rattle.f2_model.specs.Step.{Faults, HasRisen}
 use Rattle.f2_model.specs.Run.{Happening, Happened, IsRun, entries_of, choices_of}
 
 -- a list of lists one after another
@@ -35,3 +35,7 @@ run-append limits from mid to es cs ys run more = record {
 -- the disk's faults where none of its calls failed
 abbrev pub calm : Faults
 calm = record { before = 0; after = 0 }
+
+-- so none failed
+pub quiet-calm : ¬ (HasRisen calm)
+quiet-calm risen = absurd (omega (arith, risen))

@@ -28,7 +28,7 @@ use Rattle.f2_core.specs.Events.{GoesOn, ComesTo}
 use Rattle.f2_plain_save.specs.Saves.{IsSaved}
 use Rattle.f2_core.specs.declared.volumes.Volume.{Volume}
 use Rattle.f2_core.proofs.Held.{held-storable}
-use Rattle.f2_core.proofs.Runs.{calm}
+use Rattle.f2_core.proofs.Runs.{calm, quiet-calm}
 use Rattle.f2_core.proofs.Steps.{begun_turn, tail_turn, done_turn, found_turn, step-begun, step-tail, step-done, step-found, come_and_gone}
 use Rattle.f2_core.proofs.Comes.{seen, comes}
 
@@ -63,6 +63,7 @@ goes_on state seat = record {
   last = done_of (tail_turn state seat).after seat;
   whole = refl;
   own = (refl, (refl, tt));
+  quiet = (quiet-calm, (quiet-calm, tt));
   untold = (tail_untold, tt);
   reply = refl;
 }
@@ -110,7 +111,7 @@ module _ {D : Type 0} (disk after_disk : D) (extent : Extent) (was told : Option
         let known = ap (λ (s : Stored). s.version) is.known.told in
         comes disk after_disk extent (Some volume) (Some (record { files = volume.files; stored = next })) before after was told from is (Begin seat Sync) (replied reply.Synced)
         (first ∷ tail_of begun seat ∷ done_of tailed seat ∷ []) (done_of tailed seat).turn.after happened
-        (inr (record { first = first; rest = tail_of begun seat ∷ done_of tailed seat ∷ []; whole = refl; plan = plan.Sync; begun = refl; going = refl; goes_on = goes_on begun seat }))
+        (inr (record { first = first; rest = tail_of begun seat ∷ done_of tailed seat ∷ []; whole = refl; plan = plan.Sync; begun = refl; going = refl; quiet = quiet-calm; goes_on = goes_on begun seat }))
         (omega arith) entries choices (record {
           mode = refl;
           flights = ap (λ (f : map.FinMap nat_cmp Flight). map.remove (map.insert f seat (InCheck plan.Sync)) seat) is.flights ∙ come_and_gone seat (InCheck plan.Sync);
@@ -157,7 +158,7 @@ module _ {D : Type 0} (disk after_disk : D) (extent : Extent) (was told : Option
         let versions = ap (λ (s : Stored). s.version) known in
         comes disk after_disk extent None (Some (record { files = volume.files; stored = next })) before after was told from is Mount (machine.Found 0)
         (found_one ∷ tail_of found_state MOUNT_SEAT ∷ done_of mounted MOUNT_SEAT ∷ []) (done_of mounted MOUNT_SEAT).turn.after mount_happened
-        (record { first = found_one; rest = tail_of found_state MOUNT_SEAT ∷ done_of mounted MOUNT_SEAT ∷ []; whole = refl; begun = refl; found = refl; told = reply.Synced; goes_on = goes_on found_state MOUNT_SEAT })
+        (record { first = found_one; rest = tail_of found_state MOUNT_SEAT ∷ done_of mounted MOUNT_SEAT ∷ []; whole = refl; begun = refl; found = refl; quiet = quiet-calm; goes_on = goes_on found_state MOUNT_SEAT })
         (omega arith) entries choices (record {
           mode = refl;
           flights = come_and_gone MOUNT_SEAT (InCheck plan.Sync);

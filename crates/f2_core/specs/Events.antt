@@ -5,12 +5,12 @@ use Rattle.f2_format.specs.Geometry.{Extent}
 use Rattle.f2_disk.specs.Contents.{Contents}
 use Rattle.f2_model.specs.State.{State, initial}
 use Rattle.f2_model.specs.Step as machine
-use Rattle.f2_model.specs.Step.{Began, Stepped, Go, replied}
+use Rattle.f2_model.specs.Step.{Began, Stepped, Go, HasRisen, replied}
 use Rattle.f2_model.specs.Run.{Happening, Happened, entries_of, choices_of}
 use Rattle.f2_model.specs.declared.replies.Begun.TheVariants.{Going, Replied}
 use Rattle.f2_model.specs.declared.replies.Plan.{Plan}
 use Rattle.f2_model.specs.declared.replies.Reply.{Reply}
-use Rattle.f2_model.specs.declared.replies.Reply.TheVariants.{WriteFault}
+use Rattle.f2_model.specs.declared.replies.Reply.TheVariants.{Synced, WriteFault}
 use Rattle.f2_model.specs.declared.replies.Step.TheVariants as step
 use Rattle.f2_model.specs.declared.requests.Request.{Request}
 use Rattle.f2_model.specs.declared.requests.Request.TheVariants.{Create, Write, Sync}
@@ -56,12 +56,17 @@ TellsFault (machine.NotMounted machine.ReadFailed) = Unit {0}
 TellsFault (machine.NotMounted machine.WriteFailed) = Unit {0}
 TellsFault _ = ⊥
 
--- the events of a call in flight: its seat goes on, and the last event alone tells the reply
+-- no call of the disk failed in an event, so that it can tell no fault
+abbrev pub IsQuiet : Happening → Type 0
+IsQuiet one = ¬ (HasRisen one.faults)
+
+-- the events of a call in flight: its seat goes on, and the last event alone tells the reply; no call of the disk fails
 pub record GoesOn (seat : ℕ) (told : Reply) (events : List Happening) : Type 0 where
   pub before : List Happening
   pub last : Happening
   pub whole : events ≡ before ++ last ∷ []
   pub own : AllByRecursion (λ one. one.event ≡ Go seat) events
+  pub quiet : AllByRecursion IsQuiet events
   pub untold : AllByRecursion (λ one. (early : Reply) → one.turn.answer ≢ Stepped (step.Replied early)) before
   pub reply : last.turn.answer ≡ Stepped (step.Replied told)
 
@@ -71,6 +76,7 @@ pub record IsShort (event : machine.Event) (told : machine.Answer) (events : Lis
   pub whole : events ≡ one ∷ []
   pub begun : one.event ≡ event
   pub answered : one.turn.answer ≡ told
+  pub quiet : IsQuiet one
 
 -- a call that goes on after its beginning
 pub record IsLongCall (seat : ℕ) (request : Request) (told : Reply) (events : List Happening) : Type 0 where
@@ -80,21 +86,22 @@ pub record IsLongCall (seat : ℕ) (request : Request) (told : Reply) (events : 
   pub plan : Plan
   pub begun : first.event ≡ machine.Begin seat request
   pub going : first.turn.answer ≡ Began (Going plan)
+  pub quiet : IsQuiet first
   pub goes_on : GoesOn seat told rest
 
 -- the events of a call from its beginning to its reply
 abbrev pub IsCall : ℕ → Request → Reply → List Happening → Type 0
 IsCall seat request told events = IsShort (machine.Begin seat request) (replied told) events ⊎ IsLongCall seat request told events
 
--- a mount that found a tree, and its checkpoint up to its end
+-- a mount that found a tree, and its checkpoint, which is done: it ends as a checkpoint does whose flush was made
 pub record IsMount (rows : ℕ) (events : List Happening) : Type 0 where
   pub first : Happening
   pub rest : List Happening
   pub whole : events ≡ first ∷ rest
   pub begun : first.event ≡ machine.Mount
   pub found : first.turn.answer ≡ machine.Found rows
-  pub told : Reply
-  pub goes_on : GoesOn machine.MOUNT_SEAT told rest
+  pub quiet : IsQuiet first
+  pub goes_on : GoesOn machine.MOUNT_SEAT Synced rest
 
 -- The events that one call of a core stands for: a call runs to its reply, and a mount that finds a tree makes its
 -- checkpoint; a call has a reply, and a mount an answer of its own.
@@ -163,6 +170,7 @@ pub record IsMade {D : Type 0} (extent : Extent) (told : Option Contents) (core 
 pub record HasCrashed {D : Type 0} (old new : Seen D) (told : Option Contents) (from : State) : Type 0 where
   pub one : Happening
   pub event : one.event ≡ machine.Crash
+  pub quiet : IsQuiet one
   pub happened : Happened (limits_of old.geometry) from (one ∷ []) one.turn.after
   pub few : length (entries_of (one ∷ [])) ≤ MOST_LEFT
   pub closed : new.volume ≡ None

@@ -168,6 +168,7 @@ pub data IsBadTree (image : Image) (point : Checkpoint) (ino : ℕ) : Type 0 whe
       → IsPastSize image (inode_of inode).size page at → IsBadTree image point ino
   marked_directory : (place : ℕ) (inode : List ℕ) → IsMarkedAt image point place inode → footer_ino inode ≡ ino → (inode_kind inode ≡ Some Directory) ⊎ IsDirectoryOf image point ino → IsBadTree image point ino
   unbound : (place : ℕ) (inode : List ℕ) → IsMarkedAt image point place inode → footer_ino inode ≡ ino → ¬ (IsReached image point ino) → has_dentry_mark inode ≡ false → IsBadTree image point ino
+  marked_bad_name : (place parent : ℕ) (name : List ℕ) → BringsName image point place ino parent name → is_good_name name ≡ false → IsBadTree image point ino
   root_file : (inode : List ℕ) → IsInode image point ROOT Regular inode → ino ≡ ROOT → IsBadTree image point ino
 
 -- the tree of an image, where it has one

@@ -39,6 +39,6 @@ pub record IsLeft (state : State) (image : Image) : Type 0 where
   pub means : MeansAt image point base marks
   pub clean : IsCleanAt image point
 
--- each image that a crash may leave of a disk is such a one
+-- a crash leaves an image of a disk, and each that it may leave is such a one
 abbrev pub IsSafe : Contents → State → Type 0
-IsSafe lists state = (image : Image) → IsImage lists image → IsLeft state image
+IsSafe lists state = ((image : Image) × IsImage lists image) × ((image : Image) → IsImage lists image → IsLeft state image)

@@ -123,4 +123,5 @@ module _ (image : Image) (point : Checkpoint) (tree : Rows) (stored : Stored) (i
   right_tree ino (faults.marked_past_size place page at inode marked own within address some bad) = none_marked image point tree stored is place inode marked
   right_tree ino (faults.marked_directory place inode marked own bad) = none_marked image point tree stored is place inode marked
   right_tree ino (faults.unbound place inode marked own fresh bad) = none_marked image point tree stored is place inode marked
+  right_tree ino (faults.marked_bad_name place parent name brings bad) = none_marked image point tree stored is place brings.block brings.marked
   right_tree ino (faults.root_file inode is_inode same) = root_directory inode is_inode

@@ -62,7 +62,7 @@ put_pieces pages pieces = fold put_piece pages pieces
 abbrev pub raised_size : ℕ → List Piece → ℕ
 raised_size size pieces = fold (λ most piece. max most (end_of piece)) size pieces
 
--- whether a page begins before a size, and whether a size cuts it
+-- whether a page begins before a size
 abbrev pub begins_before : ℕ → ℕ → Bool
 begins_before size page = nat_lt (page * PAGE) size
 

@@ -21,7 +21,7 @@ pub record Mark : Type 0 where
   pub ino : ℕ
   pub row : Row
 
--- whether the volume is closed, is finding its tree, or is open
+-- whether the volume is closed, has found its tree and makes the checkpoint of its mount, or is open
 pub data Mode : Type 0 where
   Shut : Mode
   Mounting : Mode

@@ -72,7 +72,7 @@ pub record Turn : Type 0 where
   pub choices : List ℕ
   pub after : State
 
--- the history holds at most this many entries when a call begins
+-- a call begins only while the history has fewer entries
 abbrev pub MOST_ENTRIES : ℕ
 MOST_ENTRIES = 262144
 

@@ -159,7 +159,7 @@ PlaysOn-crash before now old new pick text crashes told printed from at =
         part = record { text = text; events = crash.one ∷ []; after = crash.one.turn.after };
         line_played = record {
           happened = crash.happened;
-          once = record { one = crash.one; whole = refl; begun = crash.event; answered = crash-answers _ _ from crash.one.event crash.one.turn crash.event crash.happened.0 };
+          once = record { one = crash.one; whole = refl; begun = crash.event; answered = crash-answers _ _ from crash.one.event crash.one.turn crash.event crash.happened.0; quiet = crash.quiet };
           text = printed;
         };
         printed = refl;

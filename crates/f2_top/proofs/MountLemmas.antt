@@ -73,7 +73,7 @@ found-none limits rows events to happened mount =
       whole = mount.whole;
       begun = mount.begun;
       found = mount.found ∙ ap Found (mount-finds-none mount.first.faults mount.first.turn rows step mount.found);
-      told = mount.told;
+      quiet = mount.quiet;
       goes_on = mount.goes_on;
     }
 

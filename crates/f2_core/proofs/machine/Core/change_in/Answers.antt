@@ -40,7 +40,7 @@ returns-clause-comes g c =
     let told = g.D.Disk.contents was.disk in
     let early : length was.history.entries < MOST_ENTRIES = omega (arith, c.len.ensures, c.if-len-ge-MOST_ENTRIES.false) in
     let flat : IsFlat was.geometry volume.files = subst (λ s. IsFlat s.geometry volume.files) (sym c.self.view_is) c.requires.opened.flat in
-    let entries = c.add.ensures.entries ∙ ap (λ o. was.history.entries ++ entry.Did c.args.seat c.args.request o ∷ []) c.outcome_of.ensures in
+    let entries = c.add.ensures.entries ∙ ap (λ o. was.history.entries ++ entry.Did c.args.seat c.args.request o ∷ []) c.outcome.ensures in
     subst (λ s. (from : State) → IsIn s.geometry (g.D.Disk.contents s.disk) (Some volume) s.history from
     → ComesTo (record s { volume = Some volume }) (seen was.disk was.geometry (Some new) c.add.new.self) told from (Begin c.args.seat c.args.request) (replied c.in-Ok.changed.reply)) c.self.view_is (λ from is.
     changes was.geometry c.self.invariant.sizes told volume was.history from is flat was.disk c.add.new.self c.args.seat c.args.request c.requires.change early c.change_files.new.files c.in-Ok.changed c.in-Ok.ensures.changed entries c.add.ensures.choices)
