@@ -115,35 +115,3 @@ fn shifted(register: u32) -> u32
         register >> 1
     }
 }
-
-#[cfg(test)]
-mod tests {
-    use super::*;
-    use std::test::Fail;
-
-    #[test]
-    fn the_lowest_byte_is_first(rt: HostRuntime) -> Result<(), Fail> {
-        let mut block = [9; 4096];
-        put16(&mut block, 0, 0x0201);
-        put32(&mut block, 2, 0x0403_0201);
-        put64(&mut block, 4088, 0x0807_0605_0403_0201);
-        assert_eq!(rt; &block[..7], [1, 2, 1, 2, 3, 4, 9].as_slice());
-        assert_eq!(rt; &block[4087..], [9, 1, 2, 3, 4, 5, 6, 7, 8].as_slice());
-        assert_eq!(rt; (get16(&block, 0), get32(&block, 2)), (0x0201, 0x0403_0201));
-        assert_eq!(rt; get64(&block, 4088), 0x0807_0605_0403_0201);
-        Ok(())
-    }
-
-    // The values are those of CRC-32 with this seed and no complement, as zlib computes it.
-    #[test]
-    fn seals_are_check_sums(rt: HostRuntime) -> Result<(), Fail> {
-        let mut block = [0; 4096];
-        assert_eq!(rt; seal(&block), 0x169B_1BA7);
-        put16(&mut block, 10, 0x1234);
-        block[4091] = 0x80;
-        assert_eq!(rt; seal(&block), 0xCBCC_086C);
-        block[4092] = 1;
-        assert_eq!(rt; seal(&block), 0xCBCC_086C);
-        Ok(())
-    }
-}

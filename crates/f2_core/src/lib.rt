@@ -20,7 +20,6 @@ mod checkpoints;
 mod entries;
 mod events;
 mod machine;
-mod outcomes;
 mod volumes;
 
 pub use events::{Answer, Event, MountFault};

@@ -15,7 +15,6 @@ use crate::changes::{Changed, change_files};
 use crate::checkpoints::find;
 use crate::entries::{add_checkpoint, add_fault, add_unfound, sync_begun};
 use crate::events::{Answer, Event, MountFault};
-use crate::outcomes::outcome_of;
 use crate::volumes::Volume;
 use f2_disk::{Bench, Disk};
 use f2_layout::Geometry;
@@ -215,7 +214,7 @@ impl<D: Disk> Core<D> {
         let entry = Entry::Did {
             seat,
             request,
-            outcome: outcome_of(&reply),
+            outcome: reply.outcome(),
         };
         self.history.add(entry, choice);
         reply

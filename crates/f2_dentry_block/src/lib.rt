@@ -14,8 +14,6 @@ mod entries;
 mod laws;
 mod packing;
 mod slots;
-#[cfg(test)]
-mod tests;
 mod unpacking;
 
 pub use dents::{Dent, UnpackFault};

@@ -89,6 +89,3 @@ impl Dir {
         Ok(dents)
     }
 }
-
-#[cfg(test)]
-mod tests;

@@ -150,36 +150,3 @@ fn least_in(phases: &[Phase; SEATS], phase: Phase) -> Option<u8>
     }
     None
 }
-
-#[cfg(test)]
-mod tests {
-    use super::*;
-    use std::test::Fail;
-
-    #[test]
-    fn shared_keeps_exclusive_out(rt: HostRuntime) -> Result<(), Fail> {
-        let mut gate = Gate::new();
-        gate.enter(2)?;
-        gate.enter(3)?;
-        assert_eq!(rt; gate.close(1), Err(Busy { by: 2 }));
-        assert_eq!(rt; gate.phase(1), Phase::Out);
-        assert_eq!(rt; gate.phase(3), Phase::Inside);
-        gate.leave(2);
-        gate.leave(3);
-        assert_eq!(rt; gate.phase(2), Phase::Out);
-        Ok(())
-    }
-
-    #[test]
-    fn exclusive_keeps_all_out(rt: HostRuntime) -> Result<(), Fail> {
-        let mut gate = Gate::new();
-        gate.close(4)?;
-        assert_eq!(rt; gate.phase(4), Phase::Exclusive);
-        assert_eq!(rt; gate.enter(0), Err(Busy { by: 4 }));
-        gate.open(4);
-        gate.enter(0)?;
-        assert_eq!(rt; gate.phase(0), Phase::Inside);
-        assert_eq!(rt; gate.phase(200), Phase::Out);
-        Ok(())
-    }
-}

@@ -19,8 +19,6 @@ mod name_sets;
 mod packing;
 mod recovered;
 mod sizes;
-#[cfg(test)]
-mod tests;
 
 pub use both::Both;
 pub use held::Held;

@@ -12,6 +12,3 @@ mod nodes;
 mod table;
 
 pub use index::Index;
-
-#[cfg(test)]
-mod tests;

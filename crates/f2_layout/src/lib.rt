@@ -10,8 +10,6 @@
 
 mod geometry;
 mod superblock;
-#[cfg(test)]
-mod tests;
 
 pub use geometry::{BadGeometry, Geometry, Limit};
 pub use superblock::{BadSuper, read_super, write_super};

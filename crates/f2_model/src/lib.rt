@@ -21,8 +21,6 @@ mod paths;
 mod replies;
 mod requests;
 mod rows;
-#[cfg(test)]
-mod tests;
 mod trees;
 
 pub use bounds::Limits;

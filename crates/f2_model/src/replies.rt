@@ -1,4 +1,7 @@
 //! What a volume answers.
+ghost use Rattle.std.specs.Prelude.{◌≡◌};
+ghost use Rattle.f2_model.specs.Step.{outcome_of};
+
 use crate::lists::{Bytes, Items, Names};
 
 /// A zone of the image whose blocks a call may lack.
@@ -59,6 +62,40 @@ pub enum Reply {
     WriteFault,
     /// Memory was refused; nothing changed.
     Memory,
+}
+
+impl Reply {
+    /// The reply without its contents, as the history keeps it.
+    pub fn outcome(&self) -> Outcome
+        ensures { result ≡ outcome_of self.now }
+    {
+        match self {
+            Reply::Done => Outcome::Done,
+            Reply::Bytes(_) => Outcome::Bytes,
+            Reply::Names(_) => Outcome::Names,
+            Reply::Roll => Outcome::Roll,
+            Reply::Cp(reason) => Outcome::Cp(*reason),
+            Reply::Synced => Outcome::Synced,
+            Reply::Closed => Outcome::Closed,
+            Reply::Spent => Outcome::Spent,
+            Reply::Busy { by } => Outcome::Busy { by: *by },
+            Reply::BadName => Outcome::BadName,
+            Reply::NoEnt => Outcome::NoEnt,
+            Reply::NotDir => Outcome::NotDir,
+            Reply::IsDir => Outcome::IsDir,
+            Reply::Exists => Outcome::Exists,
+            Reply::NotEmpty => Outcome::NotEmpty,
+            Reply::TooBig => Outcome::TooBig,
+            Reply::NoSpace { space, need, limit } => Outcome::NoSpace {
+                space: *space,
+                need: *need,
+                limit: *limit,
+            },
+            Reply::ReadFault => Outcome::ReadFault,
+            Reply::WriteFault => Outcome::WriteFault,
+            Reply::Memory => Outcome::Memory,
+        }
+    }
 }
 
 /// Replies in order.

@@ -21,6 +21,6 @@ pub struct Row {
     pub name: Name,
     /// Its length in bytes; 0 for a directory.
     pub size: u64,
-    /// The pages that were ever written; a page that isn't there reads as zeros.
+    /// The pages that a write touched and no truncate took away; one that isn't there reads as zeros.
     pub pages: Pages,
 }

@@ -10,8 +10,6 @@
 
 mod bitmap;
 mod entries;
-#[cfg(test)]
-mod tests;
 
 pub use bitmap::Bitmap;
 pub use entries::{NatEntry, entry, locate, set};

@@ -15,9 +15,6 @@ ghost use Rattle.f2_nat_journal.specs.Item.{pair_of};
 ghost use Rattle.f2_nat_journal.specs.Round.{IsEntry, WrittenJournalReadsBack};
 ghost use Rattle.f2_format.specs.Bytes.{with_bytes};
 
-#[cfg(test)]
-mod tests;
-
 use arrayvec::ArrayVec;
 use f2_bytes::{Block, get16, get32, put16, put32};
 use f2_nat_block::NatEntry;

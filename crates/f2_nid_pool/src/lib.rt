@@ -149,6 +149,3 @@ fn take_all_of(taken: &mut BitSet, live: &BitSet)
     taken.insert(1);
     taken.insert(2);
 }
-
-#[cfg(test)]
-mod tests;

@@ -11,8 +11,6 @@
 
 mod inodes;
 mod parts;
-#[cfg(test)]
-mod tests;
 mod words;
 
 pub use inodes::{Inode, InodeFault, read_inode, write_inode};

@@ -12,8 +12,6 @@ mod choice;
 mod heads;
 mod packs;
 mod reading;
-#[cfg(test)]
-mod tests;
 
 pub use choice::{NoCheckpoint, newest};
 pub use heads::{Head, write_head};

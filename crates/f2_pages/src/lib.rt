@@ -17,6 +17,3 @@ mod store;
 
 pub use faults::PageFault;
 pub use store::PageStore;
-
-#[cfg(test)]
-mod tests;

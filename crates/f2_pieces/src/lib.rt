@@ -15,8 +15,6 @@ ghost use Rattle.f2_pieces.specs.Fresh.{EndWithin, fresh_pages};
 
 mod absent;
 mod fills;
-#[cfg(test)]
-mod tests;
 mod zeros;
 
 use absent::absent_of;

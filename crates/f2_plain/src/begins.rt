@@ -16,7 +16,6 @@ ghost use Rattle.f2_plain_calls.specs.Given.{MOST_SIZE, WritesWithin};
 ghost use Rattle.f2_plain_state.specs.Seen.{told, after_turn};
 
 use crate::events::Choices;
-use crate::outcomes::outcome_of;
 use f2_model::{Begun, Path, Plan, Reason, Reply, Request, Row, Tree};
 use f2_plain_calls::{answer, copy_row, effect, refusal, removed, space_refusal, touched, walk};
 use f2_plain_reasons::fallback;
@@ -100,7 +99,7 @@ fn answer_alone(
     ensures ok { OnOk result (plain.new ≡ after_turn plain.old (machine.did plain.old.state seat request reply [] plain.old.state)) }
     ensures err { OnErr result (plain.new ≡ plain.old) }
 {
-    let outcome = outcome_of(&reply);
+    let outcome = reply.outcome();
     plain.did(Call {
         seat,
         request,
@@ -225,7 +224,7 @@ fn call_at_once(
         return answer_alone(plain, seat, request, refused);
     }
     let reply = answer(alloc, plain.live(), &request)?;
-    let outcome = outcome_of(&reply);
+    let outcome = reply.outcome();
     let call = Call {
         seat,
         request,

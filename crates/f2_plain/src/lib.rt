@@ -12,7 +12,6 @@ mod events;
 mod goes;
 mod machine;
 mod mounts;
-mod outcomes;
 mod ticks;
 
 pub use events::{Answer, Choices, Event, Extent};

@@ -32,6 +32,3 @@ pub use outcomes::{outcome, space_refusal};
 pub use refusals::refusal;
 pub use touches::{direct_of, has_direct, removed, touched};
 pub use walks::{ROOT, walk, walk_parent};
-
-#[cfg(test)]
-mod tests;

@@ -16,8 +16,6 @@ mod pages;
 mod room;
 mod rows;
 mod storable;
-#[cfg(test)]
-mod tests;
 
 pub use blocks::names_take_few_blocks;
 pub use storable::is_storable;

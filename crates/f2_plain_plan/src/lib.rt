@@ -18,8 +18,6 @@ mod pages;
 mod planning;
 mod plans;
 mod tables;
-#[cfg(test)]
-mod tests;
 mod zones;
 
 pub use planning::plan;

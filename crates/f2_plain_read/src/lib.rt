@@ -20,8 +20,6 @@ mod names;
 mod point;
 mod reading;
 mod table;
-#[cfg(test)]
-mod tests;
 
 pub use faults::ReadFault;
 pub use reading::{Found, read};

@@ -16,8 +16,6 @@ mod laws;
 mod making;
 mod packs;
 mod saving;
-#[cfg(test)]
-mod tests;
 mod writing;
 
 pub use faults::SaveFault;

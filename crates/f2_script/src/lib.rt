@@ -20,8 +20,6 @@ mod paths;
 mod reply_texts;
 mod requests;
 mod script;
-#[cfg(test)]
-mod tests;
 mod texts;
 mod tree_texts;
 mod verbs;

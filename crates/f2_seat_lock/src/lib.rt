@@ -27,8 +27,6 @@
 mod lock;
 mod parts;
 mod pass;
-#[cfg(test)]
-mod tests;
 mod view;
 
 pub use lock::SeatLock;

@@ -16,6 +16,3 @@ pub use count::nodes_of;
 pub use direct::direct_of;
 pub use first::first_page;
 pub use path::{INODE_PAGES, NODE_SLOTS, PAGE_LIMIT, Route, path_of};
-
-#[cfg(test)]
-mod tests;

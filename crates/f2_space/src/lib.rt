@@ -244,6 +244,3 @@ fn take_least(used: &mut BitSet, other: &mut BitSet) -> u32
     other.insert(at);
     at
 }
-
-#[cfg(test)]
-mod tests;

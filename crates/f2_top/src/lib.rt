@@ -16,8 +16,6 @@ mod output;
 mod player;
 mod replay;
 mod status;
-#[cfg(test)]
-mod tests;
 
 pub use commands::{run, run_plain};
 pub use status::Status;

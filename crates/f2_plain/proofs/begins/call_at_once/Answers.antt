@@ -22,5 +22,5 @@ returns-clause-ok c =
     let request = c.args.request in
     let after = c.in_ok-after.ensures ∙ ap (λ live. effect live request c.limits-limits.result.nids) c.live.ensures ∙ ap (λ (limits : Limits). effect old.state.live request limits.nids) c.limits-limits.ensures in
     let room : space_refusal old.limits (effect old.state.live request old.limits.nids) ≡ None = (λ i. space_refusal (sym c.limits-limits.ensures i) (sym after i)) ∙ sym c.in_ok-refused.ensures ∙ c.in_default.is in
-    effect_begun c.args.choices old c.take_effect.new.plain c.args.seat request c.in_ok-reply.reply c.outcome_of-outcome.result room
-    (c.in_ok-reply.ensures ∙ ap (λ live. answer live request) c.live-2.ensures) c.outcome_of-outcome.ensures c.in_ok-take_effect.ensures.ok
+    effect_begun c.args.choices old c.take_effect.new.plain c.args.seat request c.in_ok-reply.reply c.outcome-outcome.result room
+    (c.in_ok-reply.ensures ∙ ap (λ live. answer live request) c.live-2.ensures) c.outcome-outcome.ensures c.in_ok-take_effect.ensures.ok

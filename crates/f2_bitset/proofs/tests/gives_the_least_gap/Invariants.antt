@@ -1,6 +1,0 @@
-use Rattle.std.proofs.Common.{◌≡◌}
-use Rattle.f2_bitset.proofs.tests.gives_the_least_gap.Given as goal
-
--- the range stays as it is
-abbrev pub invariant-loop-number : goal.invariant-loop-number
-invariant-loop-number g l = (l.set.first ≡ 10) × (l.set.count ≡ 70)

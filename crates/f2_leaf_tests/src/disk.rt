@@ -1,0 +1,103 @@
+use f2_disk::{
+    Bench, Block, CallKind, Disk, Failed, MemBench, MemDisk, MemSink, MemSource, Sink, Source,
+    StdSink, StdSource, SureSource,
+};
+use std::alloc::Global;
+use std::io::Cursor;
+use std::test::Fail;
+
+fn sources_give_their_bytes(alloc: Global) -> Result<bool, Fail> {
+    let mut holds = true;
+    let mut into = [0u8; 4];
+    let mut sure = SureSource::new(alloc, b"abc")?;
+    holds &= sure.read(&mut into[..2]) == Ok(2);
+    holds &= sure.read(&mut into[2..]) == Ok(1);
+    holds &= into == *b"abc\0";
+    holds &= sure.read(&mut into) == Ok(0);
+
+    let mut failing = MemSource::new(alloc, b"xyz", &[2])?;
+    holds &= failing.read(&mut into[..1]) == Ok(1);
+    holds &= failing.read(&mut into) == Err(Failed);
+    holds &= failing.read(&mut into) == Ok(2);
+    holds &= into == *b"yzc\0";
+
+    let mut outside = StdSource::new(Cursor::new(b"pq"));
+    holds &= outside.read(&mut into) == Ok(2);
+    Ok(holds)
+}
+
+fn sinks_take_what_they_have_room_for(alloc: Global) -> Result<bool, Fail> {
+    let mut holds = true;
+    let mut sink = MemSink::new(alloc, 3, &[2])?;
+    holds &= sink.write(b"ab") == Ok(2);
+    holds &= sink.write(b"c") == Err(Failed);
+    holds &= sink.write(b"cd") == Ok(1);
+    holds &= sink.write(b"d") == Err(Failed);
+    holds &= sink.bytes() == b"abc".as_slice();
+
+    let mut outside = StdSink::new(Vec::new(alloc));
+    holds &= outside.write(b"pq") == Ok(2);
+    Ok(holds)
+}
+
+fn a_disk_in_memory_keeps_its_blocks(alloc: Global) -> Result<bool, Fail> {
+    let mut holds = true;
+    let mut block: Block = [7; 4096];
+    let mut disk = MemDisk::new(alloc, 2)?;
+    holds &= disk.blocks() == 2;
+    holds &= disk.write(1, &block).is_ok();
+    holds &= disk.flush().is_ok();
+    holds &= disk.read(0, &mut block).is_ok();
+    holds &= block[0] == 0;
+    holds &= disk.read(1, &mut block).is_ok();
+    holds &= block[4095] == 7;
+    holds &= disk.faults() == 0;
+    Ok(holds)
+}
+
+fn a_crash_keeps_what_the_pick_numbers(alloc: Global) -> Result<bool, Fail> {
+    let mut holds = true;
+    let mut block: Block = [0; 4096];
+    let mut bench = MemBench::new(alloc)?;
+    bench.start(2)?;
+    bench.ready(3)?;
+    holds &= bench.write(0, &[1; 4096]).is_ok();
+    holds &= bench.write(0, &[2; 4096]).is_ok();
+    holds &= bench.write(1, &[3; 4096]).is_ok();
+    // Block 0 has three contents and block 1 has two: 4 is 1 + 3 * 1.
+    bench.crash(4);
+    holds &= bench.read(0, &mut block).is_ok();
+    holds &= block[0] == 1;
+    holds &= bench.read(1, &mut block).is_ok();
+    holds &= block[0] == 3;
+    Ok(holds)
+}
+
+fn a_bench_fails_as_it_is_asked_to(alloc: Global) -> Result<bool, Fail> {
+    let mut holds = true;
+    let mut block: Block = [0; 4096];
+    let mut bench = MemBench::new(alloc)?;
+    bench.start(1)?;
+    bench.ready(1)?;
+    bench.fail_at(CallKind::Write, 1);
+    holds &= bench.write(0, &[5; 4096]).is_err();
+    holds &= bench.read(0, &mut block).is_ok();
+    holds &= block[0] == 5;
+    holds &= bench.write(0, &[6; 4096]).is_err();
+    bench.stop_after(1);
+    holds &= bench.flush().is_ok();
+    holds &= bench.flush().is_err();
+    holds &= bench.faults() == 3;
+    holds &= bench.blocks() == 1;
+    Ok(holds)
+}
+
+#[test]
+fn all_of_disk(rt: HostRuntime) -> Result<(), Fail> {
+    assert!(rt; sources_give_their_bytes(rt.alloc())?);
+    assert!(rt; sinks_take_what_they_have_room_for(rt.alloc())?);
+    assert!(rt; a_disk_in_memory_keeps_its_blocks(rt.alloc())?);
+    assert!(rt; a_crash_keeps_what_the_pick_numbers(rt.alloc())?);
+    assert!(rt; a_bench_fails_as_it_is_asked_to(rt.alloc())?);
+    Ok(())
+}

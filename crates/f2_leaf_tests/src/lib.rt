@@ -1,0 +1,24 @@
+#![tactic(auto)]
+
+#[cfg(test)]
+mod bitset;
+#[cfg(test)]
+mod dir;
+#[cfg(test)]
+mod disk;
+#[cfg(test)]
+mod gate;
+#[cfg(test)]
+mod held;
+#[cfg(test)]
+mod index;
+#[cfg(test)]
+mod nid_pool;
+#[cfg(test)]
+mod pages;
+#[cfg(test)]
+mod seat_lock;
+#[cfg(test)]
+mod shape;
+#[cfg(test)]
+mod space;

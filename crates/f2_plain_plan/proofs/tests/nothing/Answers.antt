@@ -1,7 +1,0 @@
-use Rattle.std.proofs.Common.{sym, subst}
-use Rattle.f2_laid.specs.Laid.{IsKept, PlaceMap}
-use Rattle.f2_plain_plan.proofs.SmallTrees.{nothing_kept}
-use Rattle.f2_plain_plan.proofs.tests.nothing.Goals as goal
-
-pub returns : goal.returns
-returns c extent = subst (λ (places : PlaceMap). IsKept extent places) (sym c.new.ensures) (nothing_kept extent)
