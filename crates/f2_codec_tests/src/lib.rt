@@ -1,3 +1,6 @@
+//! Tests of the formats of blocks, a module for each crate.
+//!
+//! A test says by its answer whether all that it compares holds; `docs/layers.md` says why.
 #![tactic(auto)]
 
 #[cfg(test)]

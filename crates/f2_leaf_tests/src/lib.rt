@@ -1,3 +1,6 @@
+//! Tests of the parts that know nothing of the abstract machine, a module for each crate.
+//!
+//! A test says by its answer whether all that it compares holds; `docs/layers.md` says why.
 #![tactic(auto)]
 
 #[cfg(test)]
@@ -22,3 +25,5 @@ mod seat_lock;
 mod shape;
 #[cfg(test)]
 mod space;
+#[cfg(test)]
+mod warm_log;

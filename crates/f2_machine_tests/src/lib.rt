@@ -1,3 +1,6 @@
+//! Tests of values, scripts, and calls on trees, a module for each crate.
+//!
+//! A test says by its answer whether all that it compares holds; `docs/layers.md` says why.
 #![tactic(auto)]
 
 #[cfg(test)]

@@ -1,3 +1,6 @@
+//! Tests of what stands on a disk, and of whole scripts through the top call, a module for each crate.
+//!
+//! A test says by its answer whether all that it compares holds; `docs/layers.md` says why.
 #![tactic(auto)]
 
 #[cfg(test)]

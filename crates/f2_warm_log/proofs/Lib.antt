@@ -1,0 +1,4 @@
+pub mod Chained
+pub mod DrawnLemmas
+pub mod Slots
+pub mod Steps
