@@ -6,24 +6,26 @@ use std::alloc::Global;
 use std::io::Cursor;
 use std::test::Fail;
 
-fn sources_give_their_bytes(alloc: Global) -> Result<bool, Fail> {
-    let mut holds = true;
-    let mut into = [0u8; 4];
+fn a_source_gives_its_bytes(alloc: Global) -> Result<bool, Fail> {
+    let mut into = [0; 4];
     let mut sure = SureSource::new(alloc, b"abc")?;
-    holds &= sure.read(&mut into[..2]) == Ok(2);
-    holds &= sure.read(&mut into[2..]) == Ok(1);
-    holds &= into == *b"abc\0";
-    holds &= sure.read(&mut into) == Ok(0);
+    let first = sure.read(&mut into);
+    let last = sure.read(&mut into);
+    Ok(first == Ok(3) && last == Ok(0) && into == *b"abc\0")
+}
 
-    let mut failing = MemSource::new(alloc, b"xyz", &[2])?;
-    holds &= failing.read(&mut into[..1]) == Ok(1);
-    holds &= failing.read(&mut into) == Err(Failed);
-    holds &= failing.read(&mut into) == Ok(2);
-    holds &= into == *b"yzc\0";
+fn a_source_fails_as_it_is_asked_to(alloc: Global) -> Result<bool, Fail> {
+    let mut into = [0; 2];
+    let mut source = MemSource::new(alloc, b"xyz", &[2])?;
+    let first = source.read(&mut into);
+    let failed = source.read(&mut into);
+    let last = source.read(&mut into);
+    Ok((first, failed, last) == (Ok(2), Err(Failed), Ok(1)) && into[0] == b'z')
+}
 
-    let mut outside = StdSource::new(Cursor::new(b"pq"));
-    holds &= outside.read(&mut into) == Ok(2);
-    Ok(holds)
+fn what_is_outside_is_read() -> bool {
+    let mut into = [0; 4];
+    StdSource::new(Cursor::new(b"pq")).read(&mut into) == Ok(2)
 }
 
 fn sinks_take_what_they_have_room_for(alloc: Global) -> Result<bool, Fail> {
@@ -94,7 +96,9 @@ fn a_bench_fails_as_it_is_asked_to(alloc: Global) -> Result<bool, Fail> {
 
 #[test]
 fn all_of_disk(rt: HostRuntime) -> Result<(), Fail> {
-    assert!(rt; sources_give_their_bytes(rt.alloc())?);
+    assert!(rt; a_source_gives_its_bytes(rt.alloc())?);
+    assert!(rt; a_source_fails_as_it_is_asked_to(rt.alloc())?);
+    assert!(rt; what_is_outside_is_read());
     assert!(rt; sinks_take_what_they_have_room_for(rt.alloc())?);
     assert!(rt; a_disk_in_memory_keeps_its_blocks(rt.alloc())?);
     assert!(rt; a_crash_keeps_what_the_pick_numbers(rt.alloc())?);

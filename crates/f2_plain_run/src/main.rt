@@ -14,8 +14,6 @@
 mod endings;
 mod player;
 mod scripts;
-#[cfg(test)]
-mod tests;
 
 use endings::Ending;
 use scripts::run_script;

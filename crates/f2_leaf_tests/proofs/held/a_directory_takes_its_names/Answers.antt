@@ -5,4 +5,4 @@ use Rattle.f2_held.proofs.MapSums.{opened_has}
 use Rattle.f2_leaf_tests.proofs.held.a_directory_takes_its_names.Goals as goal
 
 pub bind-requires-clause-parent : goal.bind-requires-clause-parent
-bind-requires-clause-parent g c = ap (λ (taken : Taken). map.contains_key taken.directories 3) c.in_ok-dir.ensures.ok ∙ opened_has _ 3
+bind-requires-clause-parent g = ap (λ (taken : Taken). map.contains_key taken.directories 3) g.in_ok-dir.ensures.ok ∙ opened_has _ 3
