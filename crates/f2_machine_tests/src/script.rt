@@ -18,82 +18,96 @@ fn script(alloc: Global, bytes: &[u8]) -> Result<Vec<u8>, ScriptFault> {
     Ok(text)
 }
 
+/// The text with a byte 10 for each `;` and at its end.
+fn lines(alloc: Global, text: &str) -> Result<Vec<u8>, AllocError> {
+    let mut lines = Vec::new(alloc);
+    for byte in text.as_bytes() {
+        lines.push(if *byte == b';' { b'\n' } else { *byte })?;
+    }
+    lines.push(b'\n')?;
+    Ok(lines)
+}
+
+/// In each line a script and what its lines are as text, a `;` between two lines.
+const READ_BACK: &str = "|
+# nothing;;mkfs 0 4294967295|;;mkfs 0 4294967295
+mkfs 128 1;call 8 create /a//b.c/;call 1 mkdir /;call 1 unlink /%41%2F%0A|mkfs 128 1;call 8 create /a//b.c/;call 1 mkdir /;call 1 unlink /A%2F%0A
+mkfs 128 1;call 2 write /a 0 1 65 18446744073709551615 65536 255;call 2 rmdir /a|mkfs 128 1;call 2 write /a 0 1 65 18446744073709551615 65536 255;call 2 rmdir /a
+mkfs 1 1;call 1 truncate /a 9;call 1 rename /a /b;call 1 read /b 0 1024;call 1 list /;call 1 sync|mkfs 1 1;call 1 truncate /a 9;call 1 rename /a /b;call 1 read /b 0 1024;call 1 list /;call 1 sync
+mkfs 1 1;begin 3 sync;begin 4 fsync /b;go 3;end 3;tick|mkfs 1 1;begin 3 sync;begin 4 fsync /b;go 3;end 3;tick
+mkfs 1 1;crash 7;fail flush 1;fail read 2;fail write 3;stop 0;mount;unmount;tree;gen 0 50000|mkfs 1 1;crash 7;fail flush 1;fail read 2;fail write 3;stop 0;mount;unmount;tree;gen 0 50000";
+
+fn reads_back(alloc: Global, row: &str) -> Result<bool, ScriptFault> {
+    let (read, written) = row.split_once("|").unwrap_or((row, ""));
+    let text = script(alloc, lines(alloc, read)?.as_slice())?;
+    Ok(text.as_slice() == lines(alloc, written)?.as_slice())
+}
+
 #[test]
 fn writes_the_lines_that_it_read(rt: HostRuntime) -> Result<(), ScriptFault> {
-    let rows: [(&[u8], &[u8]); 6] = [
-        (b"", b""),
-        (
-            b"# nothing\n\nmkfs 0 4294967295",
-            b"\n\nmkfs 0 4294967295\n",
-        ),
-        (
-            b"mkfs 128 1\ncall 8 create /a//b.c/\ncall 1 mkdir /\ncall 1 unlink /%41%2F%0A\n",
-            b"mkfs 128 1\ncall 8 create /a//b.c/\ncall 1 mkdir /\ncall 1 unlink /A%2F%0A\n",
-        ),
-        (
-            b"mkfs 128 1\ncall 2 write /a 0 1 65 18446744073709551615 65536 255\ncall 2 rmdir /a\n",
-            b"mkfs 128 1\ncall 2 write /a 0 1 65 18446744073709551615 65536 255\ncall 2 rmdir /a\n",
-        ),
-        (
-            b"mkfs 1 1\ncall 1 truncate /a 9\ncall 1 rename /a /b\ncall 1 read /b 0 1024\ncall 1 list /\n\
-              call 1 sync\nbegin 3 sync\nbegin 4 fsync /b\ngo 3\nend 3\ntick\n",
-            b"mkfs 1 1\ncall 1 truncate /a 9\ncall 1 rename /a /b\ncall 1 read /b 0 1024\ncall 1 list /\n\
-              call 1 sync\nbegin 3 sync\nbegin 4 fsync /b\ngo 3\nend 3\ntick\n",
-        ),
-        (
-            b"mkfs 1 1\ncrash 7\nfail flush 1\nfail read 2\nfail write 3\nstop 0\nmount\nunmount\ntree\ngen 0 50000\n",
-            b"mkfs 1 1\ncrash 7\nfail flush 1\nfail read 2\nfail write 3\nstop 0\nmount\nunmount\ntree\ngen 0 50000\n",
-        ),
-    ];
-    for (bytes, want) in rows {
-        let text = script(rt.alloc(), bytes)?;
-        assert!(rt; text.as_slice() == want);
+    for row in READ_BACK.lines() {
+        assert!(rt; reads_back(rt.alloc(), row)?, "{row}");
     }
     Ok(())
 }
 
-#[test]
-fn names_the_first_line_outside_the_grammar(rt: HostRuntime) {
-    let rows: [(Grammar, &[u8], u32); 28] = [
-        (Grammar::Whole, b"tree\n", 1),
-        (Grammar::Whole, b"#\n\ntree\n", 3),
-        (Grammar::Whole, b"mkfs 128 1\ncal 1 sync\n", 2),
-        (Grammar::Whole, b"mkfs 128 01\n", 1),
-        (Grammar::Whole, b"mkfs 4294967296 1\n", 1),
-        (Grammar::Whole, b"mkfs 128 1 \n", 1),
-        (Grammar::Whole, b"mkfs  128 1\n", 1),
-        (Grammar::Whole, b"mkfs 128 1\ntree\nmkfs 128 1\n", 3),
-        (Grammar::Whole, b"mkfs 128 1\ntree \n", 2),
-        (Grammar::Whole, b"mkfs 128 1\n tree\n", 2),
-        (Grammar::Whole, b"mkfs 128 1\ncall 9 create /a\n", 2),
-        (Grammar::Whole, b"mkfs 128 1\ncall 0 create /a\n", 2),
-        (Grammar::Whole, b"mkfs 128 1\ncall 1 create a\n", 2),
-        (Grammar::Whole, b"mkfs 128 1\ncall 1 create /a%4\n", 2),
-        (Grammar::Whole, b"mkfs 128 1\ncall 1 create /a%2f\n", 2),
-        (Grammar::Whole, b"mkfs 128 1\ncall 1 create /\x7f\n", 2),
-        (Grammar::Whole, b"mkfs 128 1\ncall 1 write /a\n", 2),
-        (Grammar::Whole, b"mkfs 128 1\ncall 1 write /a 0 0 1\n", 2),
-        (Grammar::Whole, b"mkfs 128 1\ncall 1 write /a 0 1 256\n", 2),
-        (
-            Grammar::Whole,
-            b"mkfs 128 1\ncall 1 write /a 0 1 1 0 1 1 0 1 1 0 1 1 0 1 1 0 1 1 0 1 1 0 1 1 0 1 1\n",
-            2,
-        ),
-        (Grammar::Whole, b"mkfs 128 1\ncall 1 read /a 0 1025\n", 2),
-        (Grammar::Whole, b"mkfs 128 1\nbegin 1 create /a\n", 2),
-        (Grammar::Whole, b"mkfs 128 1\nfail read 0\n", 2),
-        (Grammar::Whole, b"mkfs 128 1\ngen 0 50001\n", 2),
-        (Grammar::Plain, b"mkfs 128 1\ncrash 0\ncrash 1\n", 3),
-        (Grammar::Plain, b"mkfs 128 1\nfail read 1\n", 2),
-        (Grammar::Replay, b"mkfs 128 1\n\ntree\n", 2),
-        (Grammar::Replay, b"mkfs 128 1\ncall 1 mkdir /a\n", 2),
-    ];
-    for (grammar, bytes, want) in rows {
-        match parse(rt.alloc(), bytes, grammar) {
-            Err(ScriptFault::Line { line }) => assert_eq!(rt; line, want),
-            _ => panic!(rt; "line {want} is none"),
-        }
+/// In each line a grammar, the number of the first line outside it, and a script with a `;` between two lines.
+const FAULTS: &str = "whole|1|tree
+whole|3|#;;tree
+whole|2|mkfs 128 1;cal 1 sync
+whole|1|mkfs 128 01
+whole|1|mkfs 4294967296 1
+whole|1|mkfs 128 1 
+whole|1|mkfs  128 1
+whole|3|mkfs 128 1;tree;mkfs 128 1
+whole|2|mkfs 128 1;tree 
+whole|2|mkfs 128 1; tree
+whole|2|mkfs 128 1;call 9 create /a
+whole|2|mkfs 128 1;call 0 create /a
+whole|2|mkfs 128 1;call 1 create a
+whole|2|mkfs 128 1;call 1 create /a%4
+whole|2|mkfs 128 1;call 1 create /a%2f
+whole|2|mkfs 128 1;call 1 create /\x7f
+whole|2|mkfs 128 1;call 1 write /a
+whole|2|mkfs 128 1;call 1 write /a 0 0 1
+whole|2|mkfs 128 1;call 1 write /a 0 1 256
+whole|2|mkfs 128 1;call 1 write /a 0 1 1 0 1 1 0 1 1 0 1 1 0 1 1 0 1 1 0 1 1 0 1 1 0 1 1
+whole|2|mkfs 128 1;call 1 read /a 0 1025
+whole|2|mkfs 128 1;begin 1 create /a
+whole|2|mkfs 128 1;fail read 0
+whole|2|mkfs 128 1;gen 0 50001
+plain|3|mkfs 128 1;crash 0;crash 1
+plain|2|mkfs 128 1;fail read 1
+replay|2|mkfs 128 1;;tree
+replay|2|mkfs 128 1;call 1 mkdir /a";
+
+/// The first line of a script that is outside a grammar.
+fn first_fault(alloc: Global, grammar: &str, script: &[u8]) -> Option<u32> {
+    let grammar = match grammar {
+        "plain" => Grammar::Plain,
+        "replay" => Grammar::Replay,
+        _ => Grammar::Whole,
+    };
+    match parse(alloc, script, grammar) {
+        Err(ScriptFault::Line { line }) => Some(line),
+        _ => None,
     }
+}
+
+fn is_faulty_as_said(alloc: Global, row: &str) -> Result<bool, AllocError> {
+    let mut parts = row.split('|');
+    let grammar = parts.next().unwrap_or("");
+    let line = parts.next().unwrap_or("").parse().unwrap_or(0);
+    let script = lines(alloc, parts.next().unwrap_or(""))?;
+    Ok(first_fault(alloc, grammar, script.as_slice()) == Some(line))
+}
+
+#[test]
+fn names_the_first_line_outside_the_grammar(rt: HostRuntime) -> Result<(), AllocError> {
+    for row in FAULTS.lines() {
+        assert!(rt; is_faulty_as_said(rt.alloc(), row)?, "{row}");
+    }
+    Ok(())
 }
 
 #[test]
@@ -111,30 +125,30 @@ fn refuses_a_script_that_is_too_long(rt: HostRuntime) -> Result<(), AllocError> 
     Ok(())
 }
 
-#[test]
-fn draws_calls(rt: HostRuntime) -> Result<(), AllocError> {
-    let rows: [&[u8]; 12] = [
-        b"call 1 write /g6 25000 2527 242",
-        b"call 8 unlink /g4",
-        b"call 3 create /g2",
-        b"call 6 write /g6 58000 610 93",
-        b"call 5 unlink /g1",
-        b"call 7 write /g2 52000 3662 212",
-        b"call 4 create /g3",
-        b"call 7 write /g3 13000 2663 186",
-        b"call 3 truncate /g6 27000",
-        b"call 6 fsync /g0",
-        b"call 8 create /g2",
-        b"call 2 fsync /g4",
-    ];
+/// The calls that are drawn from 12345 on.
+const CALLS: &str = "call 1 write /g6 25000 2527 242
+call 8 unlink /g4
+call 3 create /g2
+call 6 write /g6 58000 610 93
+call 5 unlink /g1
+call 7 write /g2 52000 3662 212
+call 4 create /g3
+call 7 write /g3 13000 2663 186
+call 3 truncate /g6 27000
+call 6 fsync /g0
+call 8 create /g2
+call 2 fsync /g4";
+
+fn draws_calls(alloc: Global) -> Result<bool, AllocError> {
+    let mut holds = true;
     let mut x = 12_345;
-    for want in rows {
-        let (next, seat, request) = next_call(rt.alloc(), x)?;
-        let text = line_text(rt.alloc(), &Line::Call { seat, request })?;
-        assert!(rt; text.as_slice() == want);
+    for want in CALLS.lines() {
+        let (next, seat, request) = next_call(alloc, x)?;
+        let text = line_text(alloc, &Line::Call { seat, request })?;
+        holds &= text.as_slice() == want.as_bytes();
         x = next;
     }
-    Ok(())
+    Ok(holds)
 }
 
 fn prints_events(alloc: Global) -> Result<bool, AllocError> {
@@ -234,6 +248,7 @@ fn prints_trees(alloc: Global) -> Result<bool, AllocError> {
 
 #[test]
 fn all_of_script(rt: HostRuntime) -> Result<(), AllocError> {
+    assert!(rt; draws_calls(rt.alloc())?);
     assert!(rt; prints_events(rt.alloc())?);
     assert!(rt; prints_replies(rt.alloc())?);
     assert!(rt; prints_trees(rt.alloc())?);

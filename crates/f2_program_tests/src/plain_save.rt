@@ -1,11 +1,10 @@
-//! Images that are made and saved to.
+//! Images that are made. That they are saved to is run by the scripts of the top call.
 ghost use Rattle.std.specs.Prelude.{◌≤◌, length};
 
 use f2_disk::{Bench, CallKind, Disk, MemBench};
 use f2_layout::{Geometry, read_super};
 use f2_pack::{Side, newest, read_pack};
-use f2_plain_save::making::root_alone;
-use f2_plain_save::{SaveFault, mkfs, save};
+use f2_plain_save::{SaveFault, mkfs};
 use std::alloc::Global;
 use std::test::Fail;
 
@@ -49,18 +48,6 @@ fn a_new_image_has_a_second_superblock(alloc: Global) -> Result<bool, Fail> {
     Ok(read_super(&block, 128) == Ok(g))
 }
 
-fn the_next_checkpoint_has_version_2_and_the_other_side(alloc: Global) -> Result<bool, Fail> {
-    let g = Geometry::new(128, 1)?;
-    let mut disk = bench(alloc)?;
-    if g.blocks() > disk.blocks() {
-        return Ok(false);
-    }
-    let first = mkfs(alloc, &mut disk, g)?;
-    let tree = root_alone(alloc)?;
-    save(alloc, &mut disk, &first, &tree)?;
-    Ok(newest_of(alloc, &mut disk, &g)? == (2, Side::B))
-}
-
 fn a_flush_that_fails_is_a_fault(alloc: Global) -> Result<bool, Fail> {
     let g = Geometry::new(128, 1)?;
     let mut disk = bench(alloc)?;
@@ -75,7 +62,6 @@ fn a_flush_that_fails_is_a_fault(alloc: Global) -> Result<bool, Fail> {
 fn all_of_plain_save(rt: HostRuntime) -> Result<(), Fail> {
     assert!(rt; a_new_image_has_version_1(rt.alloc())?);
     assert!(rt; a_new_image_has_a_second_superblock(rt.alloc())?);
-    assert!(rt; the_next_checkpoint_has_version_2_and_the_other_side(rt.alloc())?);
     assert!(rt; a_flush_that_fails_is_a_fault(rt.alloc())?);
     Ok(())
 }
