@@ -151,60 +151,54 @@ fn draws_calls(alloc: Global) -> Result<bool, AllocError> {
     Ok(holds)
 }
 
+/// Whether a text that was made is this one.
+fn is(text: Result<Vec<u8>, AllocError>, want: &[u8]) -> Result<bool, AllocError> {
+    Ok(text?.as_slice() == want)
+}
+
 fn prints_events(alloc: Global) -> Result<bool, AllocError> {
-    let mut holds = true;
-    let rows: [(Vec<u8>, &[u8]); 9] = [
-        (
-            begun_text(alloc, &Begun::Going(Plan::Cp(Reason::Room)))?,
-            b"begun cp room",
-        ),
-        (
-            begun_text(alloc, &Begun::Replied(Reply::Busy { by: 2 }))?,
-            b"busy 2",
-        ),
-        (step_text(alloc, &Step::Page(923))?, b"page 923"),
-        (step_text(alloc, &Step::Again(4))?, b"again 4"),
-        (step_text(alloc, &Step::Replied(Reply::Roll))?, b"ok roll"),
-        (made_text(alloc, 9, 30)?, b"ok mkfs 9 30"),
-        (found_text(alloc, 2)?, b"ok mount 2"),
-        (counted_text(alloc, 3, 2, 1)?, b"gen 3 2 1"),
-        (
-            Vec::from_slice(alloc, tick_text(Tick::WriteFault))?,
-            b"writefault",
-        ),
-    ];
-    for (text, want) in rows {
-        holds &= text.as_slice() == want;
-    }
+    let mut holds = is(
+        begun_text(alloc, &Begun::Going(Plan::Cp(Reason::Room))),
+        b"begun cp room",
+    )?;
+    holds &= is(step_text(alloc, &Step::Page(923)), b"page 923")?;
+    holds &= is(step_text(alloc, &Step::Again(4)), b"again 4")?;
+    holds &= is(step_text(alloc, &Step::Replied(Reply::Roll)), b"ok roll")?;
+    Ok(holds && tick_text(Tick::WriteFault) == b"writefault".as_slice())
+}
+
+fn prints_lines_of_images(alloc: Global) -> Result<bool, AllocError> {
+    let mut holds = is(made_text(alloc, 9, 30), b"ok mkfs 9 30")?;
+    holds &= is(found_text(alloc, 2), b"ok mount 2")?;
+    holds &= is(counted_text(alloc, 3, 2, 1), b"gen 3 2 1")?;
     holds &= mounted_text() == b"mounted".as_slice();
-    holds &= unmounted_text() == b"ok unmount".as_slice();
-    Ok(holds)
+    Ok(holds && unmounted_text() == b"ok unmount".as_slice())
 }
 
+/// Whether a reply is printed so.
 fn prints(alloc: Global, reply: Reply, want: &[u8]) -> Result<bool, AllocError> {
-    let text = reply_text(alloc, &reply)?;
-    Ok(text.as_slice() == want)
+    is(reply_text(alloc, &reply), want)
 }
 
-fn prints_replies(alloc: Global) -> Result<bool, AllocError> {
-    let mut holds = true;
+fn prints_names_and_bytes(alloc: Global) -> Result<bool, AllocError> {
     let mut names = Names::new(alloc);
     names.push(Name::from_slice(alloc, b"a")?)?;
     names.push(Name::from_slice(alloc, b"50%/\x07")?)?;
     let bytes = Bytes::from_slice(alloc, &[7, 255])?;
-    holds &= prints(alloc, Reply::Done, b"ok")?;
-    holds &= prints(alloc, Reply::Names(names), b"ok a 50%25%2F%07")?;
-    holds &= prints(alloc, Reply::Bytes(bytes), b"ok 07ff")?;
-    holds &= prints(alloc, Reply::Bytes(Bytes::new(alloc)), b"ok")?;
-    holds &= prints(alloc, Reply::Cp(Reason::NameTaken), b"ok cp nametaken")?;
-    holds &= prints(alloc, Reply::Busy { by: 1 }, b"busy 1")?;
+    let holds = prints(alloc, Reply::Names(names), b"ok a 50%25%2F%07")?;
+    Ok(holds && prints(alloc, Reply::Bytes(bytes), b"ok 07ff")?)
+}
+
+fn prints_replies(alloc: Global) -> Result<bool, AllocError> {
     let full = Reply::NoSpace {
         space: Space::Node,
         need: 10,
         limit: 9,
     };
-    holds &= prints(alloc, full, b"nospace node 10 9")?;
-    Ok(holds)
+    let mut holds = prints(alloc, Reply::Done, b"ok")?;
+    holds &= prints(alloc, Reply::Cp(Reason::NameTaken), b"ok cp nametaken")?;
+    holds &= prints(alloc, Reply::Busy { by: 1 }, b"busy 1")?;
+    Ok(holds && prints(alloc, full, b"nospace node 10 9")?)
 }
 
 fn row(alloc: Global, ino: u32, kind: Kind, parent: u32, name: &[u8]) -> Result<Row, AllocError> {
@@ -250,6 +244,8 @@ fn prints_trees(alloc: Global) -> Result<bool, AllocError> {
 fn all_of_script(rt: HostRuntime) -> Result<(), AllocError> {
     assert!(rt; draws_calls(rt.alloc())?);
     assert!(rt; prints_events(rt.alloc())?);
+    assert!(rt; prints_lines_of_images(rt.alloc())?);
+    assert!(rt; prints_names_and_bytes(rt.alloc())?);
     assert!(rt; prints_replies(rt.alloc())?);
     assert!(rt; prints_trees(rt.alloc())?);
     Ok(())

@@ -5,4 +5,4 @@ use Rattle.std.specs.FinMap as map
 use Rattle.f2_machine_tests.proofs.model.pages_are_filled_and_taken_out.Goals as goal
 
 pub fill-requires-clause-there : goal.fill-requires-clause-there
-fill-requires-clause-there g c = subst IsSome (sym (ap (λ m. map.get m 2) c.in_ok-put.ensures.ok ∙ map.get-insert nat_cmp_total _ 2 _ 2)) refl
+fill-requires-clause-there g = subst IsSome (sym (ap (λ m. map.get m 2) g.in_ok-put.ensures.ok ∙ map.get-insert nat_cmp_total _ 2 _ 2)) refl
