@@ -6,6 +6,8 @@
 #[cfg(test)]
 mod bitset;
 #[cfg(test)]
+mod blocks;
+#[cfg(test)]
 mod dir;
 #[cfg(test)]
 mod disk;

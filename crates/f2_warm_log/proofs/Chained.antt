@@ -13,8 +13,14 @@ IsChained-push [] next position chained at = (refl, tt)
 IsChained-push (first ∷ []) next position chained at = (chained.0 ∙ sym at, (refl, tt))
 IsChained-push (first ∷ (second ∷ rest)) next position chained at = (chained.0, IsChained-push (second ∷ rest) next position chained.1 at)
 
+-- and begins where they began
+pub start_of-push : (positions : List Position) (next : ℕ) (position : Position) → position.at ≡ next
+    → start_of (positions ++ position ∷ []) position.next ≡ start_of positions next
+start_of-push [] next position at = at
+start_of-push (first ∷ rest) next position at = refl
+
 -- where positions begin, once one of them has another value and the same address
-start_of-set : (positions : List Position) (k next : ℕ) (was now : Position) → slice_get positions k ≡ Some was → now.at ≡ was.at
+pub start_of-set : (positions : List Position) (k next : ℕ) (was now : Position) → slice_get positions k ≡ Some was → now.at ≡ was.at
     → start_of (set positions k now) next ≡ start_of positions next
 start_of-set [] k next was now found at = refl
 start_of-set (first ∷ rest) zero next was now found at = let same : first ≡ was = cc in at ∙ sym (ap (λ (p : Position). p.at) same)

@@ -1,0 +1,6 @@
+use Rattle.f2_blocks.specs.Blocks.{address_of}
+use Rattle.f2_blocks.proofs.Words.{AreFilled}
+use Rattle.f2_blocks.proofs.blocks.put_addresses.Given as goal
+
+abbrev pub invariant-loop-page : goal.invariant-loop-page
+invariant-loop-page l = AreFilled (address_of l.index.pages) l.page l.into

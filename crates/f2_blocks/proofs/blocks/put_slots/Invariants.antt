@@ -1,0 +1,6 @@
+use Rattle.f2_blocks.specs.Slots.{word_in}
+use Rattle.f2_blocks.proofs.Words.{Written}
+use Rattle.f2_blocks.proofs.blocks.put_slots.Given as goal
+
+abbrev pub invariant-loop-slot : goal.invariant-loop-slot
+invariant-loop-slot l = Written (word_in l.index.pages l.nids l.slots) l.slot l.initial.into l.into

@@ -1,0 +1,4 @@
+pub mod Blocks
+pub mod Routes
+pub mod Slots
+pub mod Tree
