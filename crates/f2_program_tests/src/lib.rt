@@ -4,8 +4,6 @@
 #![tactic(auto)]
 
 #[cfg(test)]
-mod plain_check;
-#[cfg(test)]
 mod plain_plan;
 #[cfg(test)]
 mod plain_read;
