@@ -6,6 +6,10 @@ use std::alloc::Global;
 use std::io::Cursor;
 use std::test::Fail;
 
+static SEVENS: Block = [7; 4096];
+
+static EIGHTS: Block = [8; 4096];
+
 fn a_source_gives_its_bytes(alloc: Global) -> Result<bool, Fail> {
     let mut into = [0; 4];
     let mut sure = SureSource::new(alloc, b"abc")?;
@@ -43,55 +47,40 @@ fn sinks_take_what_they_have_room_for(alloc: Global) -> Result<bool, Fail> {
 }
 
 fn a_disk_in_memory_keeps_its_blocks(alloc: Global) -> Result<bool, Fail> {
-    let mut holds = true;
-    let mut block: Block = [7; 4096];
+    let mut into = [0; 4096];
     let mut disk = MemDisk::new(alloc, 2)?;
-    holds &= disk.blocks() == 2;
-    holds &= disk.write(1, &block).is_ok();
-    holds &= disk.flush().is_ok();
-    holds &= disk.read(0, &mut block).is_ok();
-    holds &= block[0] == 0;
-    holds &= disk.read(1, &mut block).is_ok();
-    holds &= block[4095] == 7;
-    holds &= disk.faults() == 0;
-    Ok(holds)
+    disk.write(1, &SEVENS)?;
+    disk.flush()?;
+    disk.read(1, &mut into)?;
+    Ok(into[4095] == 7 && disk.blocks() == 2 && disk.faults() == 0)
 }
 
 fn a_crash_keeps_what_the_pick_numbers(alloc: Global) -> Result<bool, Fail> {
-    let mut holds = true;
-    let mut block: Block = [0; 4096];
+    let mut into = [0; 4096];
     let mut bench = MemBench::new(alloc)?;
     bench.start(2)?;
     bench.ready(3)?;
-    holds &= bench.write(0, &[1; 4096]).is_ok();
-    holds &= bench.write(0, &[2; 4096]).is_ok();
-    holds &= bench.write(1, &[3; 4096]).is_ok();
+    bench.write(0, &SEVENS)?;
+    bench.write(0, &EIGHTS)?;
+    bench.write(1, &SEVENS)?;
     // Block 0 has three contents and block 1 has two: 4 is 1 + 3 * 1.
     bench.crash(4);
-    holds &= bench.read(0, &mut block).is_ok();
-    holds &= block[0] == 1;
-    holds &= bench.read(1, &mut block).is_ok();
-    holds &= block[0] == 3;
-    Ok(holds)
+    bench.read(0, &mut into)?;
+    let first = into[0];
+    bench.read(1, &mut into)?;
+    Ok((first, into[0]) == (7, 7))
 }
 
 fn a_bench_fails_as_it_is_asked_to(alloc: Global) -> Result<bool, Fail> {
-    let mut holds = true;
-    let mut block: Block = [0; 4096];
     let mut bench = MemBench::new(alloc)?;
     bench.start(1)?;
     bench.ready(1)?;
     bench.fail_at(CallKind::Write, 1);
-    holds &= bench.write(0, &[5; 4096]).is_err();
-    holds &= bench.read(0, &mut block).is_ok();
-    holds &= block[0] == 5;
-    holds &= bench.write(0, &[6; 4096]).is_err();
+    let failed = bench.write(0, &SEVENS).is_err();
     bench.stop_after(1);
-    holds &= bench.flush().is_ok();
-    holds &= bench.flush().is_err();
-    holds &= bench.faults() == 3;
-    holds &= bench.blocks() == 1;
-    Ok(holds)
+    let flushed = bench.flush().is_ok();
+    let stopped = bench.flush().is_err();
+    Ok(failed && flushed && stopped && bench.faults() == 2)
 }
 
 #[test]

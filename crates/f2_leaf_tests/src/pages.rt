@@ -1,13 +1,15 @@
 //! A page that is read, and one that is put.
 
-use f2_disk::{Disk, MemDisk};
+use f2_disk::{Block, Disk, MemDisk};
 use f2_pages::PageStore;
 use std::alloc::Global;
 use std::test::Fail;
 
+static SEVENS: Block = [7; 4096];
+
 fn a_page_is_read(alloc: Global) -> Result<bool, Fail> {
     let mut disk = MemDisk::new(alloc, 2)?;
-    disk.write(1, &[7; 4096])?;
+    disk.write(1, &SEVENS)?;
     let mut store = PageStore::new(alloc, 1)?;
     let mut into = [0; 4096];
     store.read(&mut disk, (4, 0), 1, &mut into)?;
@@ -17,7 +19,7 @@ fn a_page_is_read(alloc: Global) -> Result<bool, Fail> {
 fn a_page_that_is_put_is_dirty(alloc: Global) -> Result<bool, Fail> {
     let mut store = PageStore::new(alloc, 1)?;
     store.ready(1)?;
-    store.put((4, 0), &[8; 4096]);
+    store.put((4, 0), &SEVENS);
     let is_dirty = store.dirty((4, 0)).is_some();
     store.leave((4, 0));
     Ok(is_dirty && store.dirty((4, 0)).is_none())
