@@ -107,7 +107,7 @@ count_in-le m block =
 
 -- ---- what a put does to the counts
 
-within_insert : (m : Entries) (k : ℕ) (v : NatEntry) (n : ℕ) → k < n → ((q : ℕ) → IsSome (map.get m q) → q < n) → (q : ℕ) → IsSome (map.get (map.insert m k v) q) → q < n
+pub within_insert : (m : Entries) (k : ℕ) (v : NatEntry) (n : ℕ) → k < n → ((q : ℕ) → IsSome (map.get m q) → q < n) → (q : ℕ) → IsSome (map.get (map.insert m k v) q) → q < n
 within_insert m k v n inside within q there = at (nat_eq q k) refl
   where
     at : (b : Bool) → nat_eq q k ≡ b → q < n

@@ -1,5 +1,5 @@
 -- What is kept of the disk, and what a read adds to it.
-use Rattle.std.proofs.Common.{◌≡◌, ◌≢◌, ℕ, ◌⊎◌, inl, inr, List, length, true, false, cond, Option, Some, None, IfSome, IsSome, is_some, Bool, nat_eq, get_or, set, get_or-set_same, get_or-set_other, ◌<◌, Box, Global, ap, sym, subst, ◌∙◌, refl, arith}
+use Rattle.std.proofs.Common.{◌≡◌, ◌≢◌, ℕ, ◌⊎◌, inl, inr, List, length, true, false, cond, Option, Some, None, IfSome, IsSome, is_some, Bool, nat_eq, get_or, set, get_or-set_same, get_or-set_other, ◌<◌, replicate, Box, Global, ap, sym, subst, ◌∙◌, refl, arith}
 use Rattle.std.specs.Prelude.{slice_index_or, map as list_map}
 use Rattle.std.specs.Option.{unwrap_or, option_or, option_map}
 use Rattle.std.specs.FinMap as map
@@ -10,9 +10,9 @@ use Rattle.f2_format.specs.Nat.{is_second_copy, nat_entry, nat_block_of, nat_pla
 use Rattle.f2_nat_block.specs.declared.entries.NatEntry.{NatEntry}
 use Rattle.f2_nat_block.specs.NatEntry.{entry_of}
 use Rattle.f2_nat_cache.specs.Entries.{Entries, MayAdd}
-use Rattle.f2_nat_cache.specs.Table.{Table, IsKept, IsTable, known, pending, entry_at, entry_in, copy_in, copy_address}
-use Rattle.std.proofs.lemmas.Bool.{cases_eq}
-use Rattle.std.proofs.lemmas.List.{map-set}
+use Rattle.f2_nat_cache.specs.Table.{Table, IsKept, IsTable, known, pending, entry_at, entry_in, copy_in, copy_address, held_block}
+use Rattle.std.proofs.lemmas.Bool.{cases_eq, cases_lt}
+use Rattle.std.proofs.lemmas.List.{map-set, get_or-replicate, get_or_past, length-replicate}
 use Rattle.f2_nat_cache.proofs.Tables.{get-insert, get-remove, eq_same}
 
 -- the entry of a nid that is known
@@ -127,3 +127,40 @@ held_itself items block b old is within =
     let more = held_more items block b ∙ ap (λ h. set h block (Some b.value)) is in
     let here = ap (λ (h : List (Option (List ℕ))). get_or h block None) more ∙ get_or-set_same old block (Some b.value) None within in
     more ∙ ap (set old block) (sym here)
+
+-- ---- no read in between
+
+-- no clean entry more, and the same copies
+pub kept_fewer : (t t' : Table) (told : Option Contents) → t'.extent ≡ t.extent → t'.bitmap ≡ t.bitmap → t'.held ≡ t.held → ((nid : ℕ) (e : NatEntry) → map.get t'.clean nid ≡ Some e → map.get t.clean nid ≡ Some e)
+    → IfSome told (IsKept t) → IfSome told (IsKept t')
+kept_fewer t t' None extent bitmap held fewer kept = tt
+kept_fewer t t' (Some lists) extent bitmap held fewer kept =
+    record {
+      held = λ block content found. kept.held block content (ap (λ h. slice_index_or h block None) (sym held) ∙ found) ∙ sym (same_copy t t' lists block extent bitmap);
+      clean = λ nid entry found. kept.clean nid entry (fewer nid entry found) ∙ ap (λ block. entry_in block nid) (sym (same_copy t t' lists (nat_block_of nid) extent bitmap));
+    }
+
+pub fewer_without : (old new : Entries) (k : ℕ) → new ≡ map.remove old k → (nid : ℕ) (e : NatEntry) → map.get new nid ≡ Some e → map.get old nid ≡ Some e
+fewer_without old new k is nid e found = at (nat_eq nid k) (sym (ap (λ m. map.get m nid) is ∙ get-remove old k nid) ∙ found)
+  where
+    at : (b : Bool) → cond b None (map.get old nid) ≡ Some e → map.get old nid ≡ Some e
+    at true h = cc
+    at false h = h
+
+-- nothing is kept
+pub kept_none : (t : Table) (told : Option Contents) → ((block : ℕ) → held_block t block ≡ None) → ((nid : ℕ) → map.get t.clean nid ≡ None) → IfSome told (IsKept t)
+kept_none t None held clean = tt
+kept_none t (Some lists) held clean =
+    record {
+      held = λ block content found. let wrong = sym (held block) ∙ found in cc;
+      clean = λ nid entry found. let wrong = sym (clean nid) ∙ found in cc;
+    }
+
+pub none_held : (n block : ℕ) → get_or (replicate n (let none : Option (List ℕ) = None in none)) block None ≡ None
+none_held n block = elim (cases_lt block n) [
+  | inl within ↦ get_or-replicate n block None None within
+  | inr past ↦ get_or_past (replicate n None) block None (omega (arith, length-replicate {A = Option (List ℕ)} n None))
+]
+
+pub same_fewer : (old new : Entries) → new ≡ old → (nid : ℕ) (e : NatEntry) → map.get new nid ≡ Some e → map.get old nid ≡ Some e
+same_fewer old new is nid e found = ap (λ m. map.get m nid) (sym is) ∙ found

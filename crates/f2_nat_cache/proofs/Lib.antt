@@ -1,7 +1,9 @@
 pub mod Counts
+pub mod Found
 pub mod Journals
 pub mod Kept
 pub mod Lists
+pub mod Merged
 pub mod Parts
 pub mod Tables
 pub mod Writes

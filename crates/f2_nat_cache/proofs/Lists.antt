@@ -1,10 +1,11 @@
 -- Tests over a range of numbers.
 use Rattle.std.proofs.Common.{◌≡◌, ℕ, zero, suc, ◌+◌, ◌<◌, ◌≤◌, Bool, true, false, cond, List, [], ◌∷◌, ◌++◌, length, get_or, replicate, refl, ap, sym, ◌∙◌, inl, inr, arith, length-append}
-use Rattle.std.specs.Prelude.{filter, map, nat_lt}
+use Rattle.std.specs.Prelude.{filter, fold, map, nat_lt}
 use Rattle.std.specs.List.{range_with_len}
 use Rattle.std.proofs.lemmas.Bool.{cases_lt}
 use Rattle.std.proofs.lemmas.Bool.Decides.{nat_tests}
 use Rattle.std.proofs.lemmas.List.{get_or-replicate, get_or_past, length-replicate, replicate-append-replicate, append-nil}
+use Rattle.std.proofs.lemmas.List.Sums.{fold-append}
 use Rattle.std.proofs.lemmas.List.FromFn.{filter_of_map_range_with_len_more}
 
 -- a range is itself
@@ -72,3 +73,13 @@ positive n h = grind (arith, nat_tests)
 
 pub not_positive : (n : ℕ) → n ≤ 0 → nat_lt 0 n ≡ false
 not_positive n h = grind (arith, nat_tests)
+
+-- a fold over those that pass, after one number more
+pub fold-filter_more : {B : Type 0} (f : B → ℕ → B) (a : B) (p : ℕ → Bool) (n : ℕ) (now next : B) (b : Bool) → now ≡ fold f a (filter p (range_with_len 0 n)) → p n ≡ b → next ≡ cond b (f now n) now → next ≡ fold f a (filter p (range_with_len 0 (n + 1)))
+fold-filter_more f a p n now next b is pass more =
+    more ∙ at b is
+    ∙ sym (ap (fold f a) (filter-range_more p n ∙ ap (λ c. filter p (range_with_len 0 n) ++ cond c (n ∷ []) []) pass) ∙ fold-append f a (filter p (range_with_len 0 n)) (cond b (n ∷ []) []))
+  where
+    at : (c : Bool) → now ≡ fold f a (filter p (range_with_len 0 n)) → cond c (f now n) now ≡ fold f (fold f a (filter p (range_with_len 0 n))) (cond c (n ∷ []) [])
+    at true is = ap (λ x. f x n) is
+    at false is = is

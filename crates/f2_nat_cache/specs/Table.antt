@@ -1,11 +1,11 @@
 -- The node address table of a running volume: one map from nid to entry, kept in parts (struct f2fs_nm_info of f2fs.h
 -- and f2fs_get_node_info of node.c).
-use Rattle.std.specs.Prelude.{◌≡◌, ℕ, zero, suc, ◌+◌, ◌*◌, ◌≤◌, List, length, Option, Some, None, IsSome, slice_index_or, refl}
+use Rattle.std.specs.Prelude.{◌≡◌, ℕ, zero, suc, ◌+◌, ◌*◌, ◌<◌, ◌≤◌, List, length, Option, Some, None, IsSome, slice_index_or, refl}
 use Rattle.std.specs.Option.{unwrap_or, option_or, option_map}
 use Rattle.std.specs.Coded.{Coded, code_by, coded×, coded_ℕ, coded_list, coded_option}
 use Rattle.std.specs.FinMap as map
 use Rattle.f2_disk.specs.Contents.{Contents, list_at, last_of}
-use Rattle.f2_format.specs.Geometry.{ENTRIES_A_NAT_BLOCK, Extent, IsGeometry, nat_address}
+use Rattle.f2_format.specs.Geometry.{ENTRIES_A_NAT_BLOCK, Extent, IsGeometry, nat_address, nid_limit}
 use Rattle.f2_format.specs.Nat.{nat_entry, with_nat_entry, nat_block_of, nat_place_of, is_second_copy}
 use Rattle.f2_format.specs.Journal.{JournalList, journal_find}
 use Rattle.f2_nat_block.specs.declared.entries.NatEntry.{NatEntry}
@@ -76,12 +76,13 @@ pub record IsKept (table : Table) (lists : Contents) : Type 0 where
   pub held : (block : ℕ) (content : List ℕ) → held_block table block ≡ Some content → content ≡ copy_in table lists block
   pub clean : (nid : ℕ) (entry : NatEntry) → map.get table.clean nid ≡ Some entry → entry ≡ entry_in (copy_in table lists (nat_block_of nid)) nid
 
--- What the parts of a table keep: dirty entries and held blocks are counted by the same sizes, and no clean entry is of
--- a nid with a pending one.
+-- What the parts of a table keep: dirty entries and held blocks are counted by the same sizes, no dirty entry is past the
+-- table, and no clean entry is of a nid with a pending one.
 pub record IsTable (table : Table) (nat : ℕ) : Type 0 where
   pub sizes : nat ≡ table.extent.nat
   pub geometry : IsGeometry table.extent
   pub blocks : length table.held ≡ table.extent.nat
+  pub within : (nid : ℕ) → IsSome (map.get table.dirty nid) → nid < nid_limit table.extent
   pub bounded : map.len table.clean ≤ table.room
   pub apart : (nid : ℕ) → IsSome (map.get table.clean nid) → pending table.dirty table.journal nid ≡ None
 

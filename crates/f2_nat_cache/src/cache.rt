@@ -1,31 +1,30 @@
 //! The cache of the node address table.
 
-ghost use Rattle.std.specs.Prelude.{◌≡◌, ℕ, ◌-◌, ◌<◌, ◌≤◌, None, Some, max, replicate, length, slice_set, unwrap_or, IsOk, IsSome, IfSome, IfOk, IfErr, OnOk, OnErr};
+ghost use Rattle.std.specs.Prelude.{◌≡◌, ℕ, ◌-◌, ◌<◌, ◌≤◌, None, Some, max, replicate, length, slice_set, Option, IsOk, IsSome, IfSome, IfOk, IfErr, OnOk, OnErr};
 ghost use Rattle.std.specs.FinMap as map;
 ghost use Rattle.f2_disk.specs.Meter.{HasFailed, IsWithin};
-ghost use Rattle.f2_disk.specs.Contents.{list_at, last_of};
+ghost use Rattle.f2_disk.specs.Contents.{Contents, list_at, last_of};
 ghost use Rattle.f2_format.specs.Geometry.{ENTRIES_A_NAT_BLOCK, nid_limit};
 ghost use Rattle.f2_format.specs.Nat.{nat_entry};
 ghost use Rattle.f2_nat_block.specs.NatEntry.{entry_of};
 ghost use Rattle.f2_nat_cache.specs.Entries.{EachOnce, MayAdd};
-ghost use Rattle.f2_nat_cache.specs.Plan.{dirty_sets, needed as needed_of, is_pending_block, pending_blocks as blocks_of, plan_of};
-ghost use Rattle.f2_nat_cache.specs.Table.{IsKept, known as known_of, pending as pending_of, entry_at, held_block, nid_at, with_pending};
+ghost use Rattle.f2_nat_cache.specs.Plan.{bitmap_after, dirty_sets, journal_after, needed as needed_of, is_pending_block, pending_blocks as blocks_of, plan_of};
+ghost use Rattle.f2_nat_cache.specs.Table.{IsKept, known as known_of, entry_at, held_block, nid_at, with_pending};
 ghost use Rattle.f2_nat_cache.specs.declared.faults.CacheFault.TheVariants.{Read};
 
 use crate::clean::CleanEntries;
 use crate::dirty::DirtyEntries;
 use crate::faults::CacheFault;
 use crate::journal::KnownJournal;
+use crate::pending::{merged, pending, write_pending};
 use f2_disk::{Block, Disk};
 use f2_layout::Geometry;
-use f2_nat_block::{Bitmap, NatEntry, entry, locate, set};
+use f2_nat_block::{Bitmap, NatEntry, entry, locate};
 use f2_nat_journal::Journal;
 use std::alloc::{AllocError, Global};
 use std::marker::Model;
 
 const MOST_JOURNAL_ENTRIES: usize = 38;
-
-const ENTRIES_A_BLOCK: u16 = 455;
 
 /// What a checkpoint writes of the node address table.
 #[derive(Clone, Copy, Debug, PartialEq, Eq)]
@@ -72,7 +71,8 @@ impl Cache {
     ) -> Result<Cache, AllocError>
         requires room { 1 ≤ room }
         requires once { EachOnce journal }
-        ensures { IfOk result (λ cache. cache ≡ record { extent = g.now; bitmap = bitmap; journal = journal; dirty = map.empty; held = replicate g.now.nat None; clean = map.empty; spare = 0; room = room }) }
+        ensures made { IfOk result (λ cache. cache ≡ record { extent = g.now; bitmap = bitmap; journal = journal; dirty = map.empty; held = replicate g.now.nat None; clean = map.empty; spare = 0; room = room }) }
+        ensures still_kept { IfOk result (λ cache. (told : Option Contents) → IfSome told (IsKept cache)) }
     {
         let nat = g.nat();
         let mut held = Vec::with_capacity(alloc, nat as usize)?;
@@ -133,6 +133,7 @@ impl Cache {
     pub fn put(&mut self, nid: u32, e: NatEntry) -> Result<(), AllocError>
         requires { nid < nid_limit self.old.extent }
         ensures ok { OnOk result (self.new ≡ record self.old { dirty = map.insert self.old.dirty nid e; clean = map.remove self.old.clean nid }) }
+        ensures still_kept { OnOk result ((told : Option Contents) → IfSome told (IsKept self.old) → IfSome told (IsKept self.new)) }
         ensures err { OnErr result (self.new ≡ self.old) }
     {
         self.dirty.put(nid, e)?;
@@ -175,6 +176,7 @@ impl Cache {
     /// An error leaves the cache as it was.
     pub fn room(&mut self, n: u32) -> Result<(), AllocError>
         ensures ok { OnOk result (self.new ≡ record self.old { spare = max self.old.spare n }) }
+        ensures still_kept { OnOk result ((told : Option Contents) → IfSome told (IsKept self.old) → IfSome told (IsKept self.new)) }
         ensures err { OnErr result (self.new ≡ self.old) }
     {
         self.dirty.room(n)
@@ -184,7 +186,8 @@ impl Cache {
     pub fn put_ready(&mut self, nid: u32, e: NatEntry)
         requires nid { nid < nid_limit self.old.extent }
         requires ready { 0 < self.old.spare }
-        ensures { self.new ≡ record self.old { dirty = map.insert self.old.dirty nid e; clean = map.remove self.old.clean nid; spare = self.old.spare - 1 } }
+        ensures put { self.new ≡ record self.old { dirty = map.insert self.old.dirty nid e; clean = map.remove self.old.clean nid; spare = self.old.spare - 1 } }
+        ensures still_kept { (told : Option Contents) → IfSome told (IsKept self.old) → IfSome told (IsKept self.new) }
     {
         self.dirty.put_ready(nid, e);
         self.clean.forget(nid);
@@ -201,6 +204,34 @@ impl Cache {
             *into = **held;
             write_pending(&self.dirty, &self.journal, block, into);
         }
+    }
+
+    /// The journal of the checkpoint that [`Cache::plan`] tells of: the old one with each dirty entry in place of its
+    /// nid's, or else appended by rising nid; an empty one where blocks are written.
+    pub fn journal(&self) -> Journal
+        ensures { result ≡ journal_after self.now }
+    {
+        if self.needed() > MOST_JOURNAL_ENTRIES {
+            return Journal::new();
+        }
+        merged(&self.dirty, &self.journal, self.geometry.nat())
+    }
+
+    /// The bitmap of the checkpoint that [`Cache::plan`] tells of: the bit of each block that it writes is flipped, and
+    /// no other.
+    pub fn bitmap(&self) -> Bitmap
+        ensures value { result ≡ bitmap_after self.now }
+    {
+        let mut bitmap = self.bitmap;
+        if self.needed() <= MOST_JOURNAL_ENTRIES {
+            return bitmap;
+        }
+        for block in 0..self.geometry.nat() {
+            if self.is_pending(block) {
+                bitmap.flip(block);
+            }
+        }
+        bitmap
     }
 
     /// The number of each block that has dirty entries, and how many, by rising block.
@@ -237,7 +268,8 @@ impl Cache {
 
     /// The entries of a journal with all changes.
     fn needed(&self) -> usize
-        ensures { result ≡ needed_of self.now }
+        ensures value { result ≡ needed_of self.now }
+        ensures once { EachOnce self.now.journal }
     {
         let nids = self.journal.nids();
         let others = nids
@@ -280,33 +312,6 @@ impl Cache {
         match &self.held[block as usize] {
             Some(held) => Some(entry(held, place)),
             None => None,
-        }
-    }
-}
-
-/// The entry of a nid that goes before its block: the dirty one, else the journal's.
-fn pending(dirty: &DirtyEntries, journal: &KnownJournal, nid: u32) -> Option<NatEntry>
-    ensures { result ≡ pending_of dirty.now.entries journal.now nid }
-{
-    if let Some(e) = dirty.get(nid) {
-        return Some(e);
-    }
-    journal.find(nid)
-}
-
-/// Puts the pending entries of a block of the table into it.
-fn write_pending(dirty: &DirtyEntries, journal: &KnownJournal, block: u32, into: &mut Block)
-    requires { block < 1024 }
-    ensures content { into.new ≡ with_pending dirty.now.entries journal.now block into.old }
-    ensures entries { (place : ℕ) → place < ENTRIES_A_NAT_BLOCK → entry_of (nat_entry into.new place) ≡ unwrap_or (pending_of dirty.now.entries journal.now (nid_at block place)) (entry_of (nat_entry into.old place)) }
-{
-    for place in 0..ENTRIES_A_BLOCK {
-        if let Some(e) = pending(
-            dirty,
-            journal,
-            ENTRIES_A_BLOCK as u32 * block + place as u32,
-        ) {
-            set(into, place, e);
         }
     }
 }

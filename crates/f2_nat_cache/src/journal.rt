@@ -57,7 +57,8 @@ impl KnownJournal {
 
     /// The nids, in the order in which they stand.
     pub(crate) fn nids(&self) -> &[u32]
-        ensures { result.now ≡ listed self.now }
+        ensures nids { result.now ≡ listed self.now }
+        ensures once { EachOnce self.now }
     {
         self.nids.as_slice()
     }

@@ -9,8 +9,8 @@
 //! What the layer above uses: contracts see a cache as these parts, and over them one map from nid to entry,
 //! `entry_at`. [`Cache::get`] reads the map and [`Cache::put`] changes it at one nid. [`Cache::plan`] tells what a
 //! checkpoint writes: all that changed into the journal, where that has room for it, else each block with a change.
-//! Where blocks are held and memory was taken ahead, [`Cache::put_ready`] and [`Cache::block`] neither fail nor read
-//! the disk.
+//! Where blocks are held and memory was taken ahead, [`Cache::put_ready`], [`Cache::block`], [`Cache::journal`] and
+//! [`Cache::bitmap`] neither fail nor read the disk.
 //!
 //! The definitions stand in `specs/Table.antt` (the map), `specs/Entries.antt` and `specs/Plan.antt`.
 #![tactic(auto)]
@@ -20,6 +20,7 @@ mod clean;
 mod dirty;
 mod faults;
 mod journal;
+mod pending;
 
 pub use cache::{Cache, CpNat};
 pub use faults::CacheFault;

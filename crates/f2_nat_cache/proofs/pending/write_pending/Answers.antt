@@ -6,8 +6,8 @@ use Rattle.f2_nat_block.specs.declared.entries.NatEntry.{NatEntry}
 use Rattle.f2_nat_block.specs.NatEntry.{entry_of, place_of}
 use Rattle.f2_nat_cache.specs.Table.{pending, nid_at, with_entry, with_pending_below}
 use Rattle.f2_nat_cache.proofs.Writes.{with_pending-none, with_pending-more}
-use Rattle.f2_nat_cache.proofs.cache.write_pending.Goals as goal
-use Rattle.f2_nat_cache.proofs.cache.write_pending.Goals.{in-Some, in_default}
+use Rattle.f2_nat_cache.proofs.pending.write_pending.Goals as goal
+use Rattle.f2_nat_cache.proofs.pending.write_pending.Goals.{in-Some, in_default}
 
 pub loop-place-init : goal.loop-place-init
 loop-place-init c =

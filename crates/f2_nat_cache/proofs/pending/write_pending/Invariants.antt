@@ -3,7 +3,7 @@ use Rattle.std.specs.Option.{unwrap_or}
 use Rattle.f2_format.specs.Nat.{nat_entry}
 use Rattle.f2_nat_block.specs.NatEntry.{entry_of}
 use Rattle.f2_nat_cache.specs.Table.{pending, nid_at, with_pending_below}
-use Rattle.f2_nat_cache.proofs.cache.write_pending.Given as goal
+use Rattle.f2_nat_cache.proofs.pending.write_pending.Given as goal
 
 abbrev pub invariant-loop-place : goal.invariant-loop-place
 invariant-loop-place l =
