@@ -5,6 +5,7 @@ use Rattle.std.specs.Bool.{then_some}
 use Rattle.std.specs.List.{list_any, starts_with}
 use Rattle.std.specs.FinMap as map
 use Rattle.f2_model.specs.Rising.{rising}
+use Rattle.f2_model.specs.Lists.{first_some}
 use Rattle.f2_model.specs.Names.{same_name, is_good_path}
 use Rattle.f2_model.specs.Content.{bytes_between, put_pieces, raised_size, cut_pages, end_of}
 use Rattle.f2_model.specs.Tree.{Rows, MOST_DEPTH, is_directory, is_in, walk, parent_path, last_name, names_in}
@@ -18,12 +19,6 @@ use Rattle.f2_model.specs.declared.requests.Request.TheVariants.{Create, Mkdir, 
 use Rattle.f2_model.specs.declared.replies.Space.TheVariants.{Node, Data}
 use Rattle.f2_model.specs.declared.replies.Reply.{Reply}
 use Rattle.f2_model.specs.declared.replies.Reply.TheVariants.{Done, Bytes, Names, BadName, NotDir, IsDir, Exists, NotEmpty, TooBig, NoSpace}
-
--- the first refusal that there is
-abbrev pub first_refusal : List (Option Reply) → Option Reply
-first_refusal [] = None
-first_refusal (None ∷ rest) = first_refusal rest
-first_refusal (Some refusal ∷ rest) = Some refusal
 
 -- the refusal of a walk
 abbrev pub refusal_of : Result Row Reply → Option Reply
@@ -68,7 +63,7 @@ walk_refusal tree (Write path pieces) = refusal_of (walk tree path)
 walk_refusal tree (Truncate path size) = refusal_of (walk tree path)
 walk_refusal tree (Unlink path) = refusal_of (walk tree path)
 walk_refusal tree (Rmdir path) = refusal_of (to_directory (walk tree path))
-walk_refusal tree (Rename from to) = first_refusal (refusal_of (walk tree from) ∷ refusal_of (walk_parent tree to) ∷ [])
+walk_refusal tree (Rename from to) = first_some (refusal_of (walk tree from) ∷ refusal_of (walk_parent tree to) ∷ [])
 walk_refusal tree (Read path off len) = refusal_of (walk tree path)
 walk_refusal tree (ListNames path) = refusal_of (to_directory (walk tree path))
 walk_refusal tree (Fsync path) = refusal_of (walk tree path)
@@ -132,7 +127,7 @@ is_too_big limits tree _ = false
 
 -- the first refusal of a call by its paths, the tree and its numbers
 abbrev pub refusal : Limits → Rows → Request → Option Reply
-refusal limits tree request = first_refusal (
+refusal limits tree request = first_some (
     then_some (has_bad_name request) BadName
     ∷ walk_refusal tree request
     ∷ then_some (names_directory tree request) IsDir
@@ -181,10 +176,16 @@ answer tree _ = Done
 
 -- the refusal for want of space: the tree would have more nodes, or else more data blocks, than are granted
 abbrev pub space_refusal : Limits → Rows → Option Reply
-space_refusal limits tree = first_refusal (
+space_refusal limits tree = first_some (
     then_some (nat_lt limits.nodes (nodes_of_tree tree)) (NoSpace Node (nodes_of_tree tree) limits.nodes)
     ∷ then_some (nat_lt limits.data_blocks (data_of_tree tree)) (NoSpace Data (data_of_tree tree) limits.data_blocks)
     ∷ [])
+
+-- the same of a call: an fsync and a sync want none for the tree, since they don't change it
+abbrev pub space_wanted : Limits → Rows → Request → Option Reply
+space_wanted limits after (Fsync path) = None
+space_wanted limits after Sync = None
+space_wanted limits after request = space_refusal limits after
 
 -- a refusal leaves the tree; else the reply comes with the tree after the call
 abbrev pub or_refused : Rows → Option Reply → Reply × Rows → Reply × Rows
@@ -195,4 +196,4 @@ or_refused tree None done = done
 abbrev pub outcome : Limits → Rows → Request → ℕ → Reply × Rows
 outcome limits tree request ino =
     let after = effect tree request ino in
-    or_refused tree (refusal limits tree request) (or_refused tree (space_refusal limits after) (answer tree request, after))
+    or_refused tree (refusal limits tree request) (or_refused tree (space_wanted limits after request) (answer tree request, after))

@@ -1,4 +1,5 @@
--- When an fsync makes a checkpoint in place of rolling forward, and the room that it is measured against.
+-- When an fsync makes a checkpoint in place of rolling forward, and the room that it is measured against
+-- (f2fs_do_sync_file and need_do_checkpoint of fs/f2fs/file.c).
 use Rattle.std.specs.Prelude.{ℕ, ◌+◌, max, Bool, not, ◌&&◌, ◌||◌, nat_lt, ◌==◌, List, [], ◌∷◌, ◌++◌, map as map_list}
 use Rattle.std.specs.Prelude.{Option, Some, None}
 use Rattle.std.specs.Bool.{then_some}
@@ -6,6 +7,7 @@ use Rattle.std.specs.List.{list_any, filter, filter_map, fold, count_by, range_w
 use Rattle.std.specs.Ordering.{nat_cmp}
 use Rattle.std.specs.FinMap as map
 use Rattle.std.specs.FinSet as set
+use Rattle.f2_model.specs.Lists.{first_some}
 use Rattle.f2_model.specs.Rising.{rising}
 use Rattle.f2_format.specs.Offsets.{node_count}
 use Rattle.f2_model.specs.Tree.{Rows, is_directory, stands_at, names_of}
@@ -38,13 +40,13 @@ pairs_of ino pairs = count_by (λ pair. pair.0 == ino) (rising pairs)
 abbrev pub needed : State → ℕ → Both
 needed state ino = record { nodes = pairs_of ino state.dirty_nodes + 1; pages = pairs_of ino state.dirty_pages }
 
--- what a call in flight has still to write: a marked fsync wrote its inode, and a checkpoint's blocks aren't the node log's
+-- what a call in flight has still to write: a marked fsync has drawn its inode's position, and a checkpoint's blocks aren't the node log's
 abbrev pub owed_by_part : State → ℕ → Part → Both
 owed_by_part state ino Marked = record { nodes = pairs_of ino state.dirty_nodes; pages = pairs_of ino state.dirty_pages }
 owed_by_part state ino _ = needed state ino
 
 abbrev pub owed_by : State → Flight → Both
-owed_by state (InFsync ino stage) = owed_by_part state ino stage.part
+owed_by state (InFsync ino progress) = owed_by_part state ino progress.part
 owed_by state (InCheck plan) = nothing
 
 abbrev pub owed : State → Both
@@ -52,7 +54,7 @@ owed state = fold (λ total flight. sum_of total (owed_by state flight)) nothing
 
 -- the inos that fsyncs in flight hold
 abbrev pub frozen_ino : Flight → Option ℕ
-frozen_ino (InFsync ino stage) = Some ino
+frozen_ino (InFsync ino progress) = Some ino
 frozen_ino (InCheck plan) = None
 
 abbrev pub frozen_inos : State → List ℕ
@@ -100,15 +102,9 @@ lacks_room limits state ino =
     nat_lt limits.nodes writes.nodes || nat_lt limits.data_blocks writes.pages
     || nat_lt limits.nodes (held state ino).nodes || nat_lt limits.data_blocks (held state ino).pages
 
--- the first reason that there is
-abbrev pub first_reason : List (Option Reason) → Option Reason
-first_reason [] = None
-first_reason (None ∷ rest) = first_reason rest
-first_reason (Some reason ∷ rest) = Some reason
-
 -- why an fsync of a row makes a checkpoint, or nothing where it rolls forward
 abbrev pub fallback : Limits → State → Row → Option Reason
-fallback limits state row = first_reason (
+fallback limits state row = first_some (
     then_some (is_directory row.kind) NonRegular
     ∷ then_some (set.contains state.moved row.ino) Renamed
     ∷ then_some (not (map.contains_key state.base row.parent)) ParentNew

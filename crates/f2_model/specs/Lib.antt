@@ -1,4 +1,5 @@
 -- The abstract machine: what the tree is, what each call does, and what a crash may leave.
+pub mod Lists
 pub mod Rising
 pub mod Names
 pub mod Content
@@ -7,6 +8,11 @@ pub mod Count
 pub mod Call
 pub mod State
 pub mod Fallback
+pub mod Turns
+pub mod Begins
+pub mod Goes
+pub mod Ticks
+pub mod Mounts
 pub mod Step
 pub mod Run
 pub mod History

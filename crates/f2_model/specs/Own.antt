@@ -68,7 +68,7 @@ is_ack _ = false
 abbrev pub acks_of : List Entry → ℕ
 acks_of entries = count_by is_ack entries
 
--- the events of an fsync that has so many dirty pages and nodes when it begins: the Begin, the writes, two flushes and the mark
+-- the events of an fsync that has so many dirty pages and nodes when it begins, but for those that draw a position of the node log or wait for one: the Begin, the writes, two flushes and the mark
 abbrev pub steps_of_fsync : ℕ → ℕ → ℕ
 steps_of_fsync pages nodes = pages + nodes + 4
 

@@ -1,5 +1,5 @@
 -- The state of the abstract machine, how a crash leaves it, and what a call makes dirty.
-use Rattle.std.specs.Prelude.{◌≡◌, ℕ, ◌/◌, ◌%◌, ◌<◌, ◌≤◌, Bool, false, not, ◌&&◌, nat_lt, if◌then◌else◌, ◌==◌, ◌⊎◌, List, [], ◌∷◌, ◌++◌, take, length}
+use Rattle.std.specs.Prelude.{◌≡◌, ℕ, ◌+◌, ◌/◌, ◌%◌, ◌<◌, ◌≤◌, Bool, false, not, ◌&&◌, nat_lt, if◌then◌else◌, ◌==◌, ◌⊎◌, List, [], ◌∷◌, ◌++◌, take, length}
 use Rattle.std.specs.Prelude.{Option, Some, None, Result, Ok, Err}
 use Rattle.std.specs.List.{list_any, filter, filter_map, fold, flat_map}
 use Rattle.std.specs.Ordering.{nat_cmp, on, then_cmp}
@@ -11,6 +11,10 @@ use Rattle.f2_model.specs.Content.{PAGE, begins_before, pages_of_piece}
 use Rattle.f2_model.specs.Tree.{Rows, walk}
 use Rattle.f2_model.specs.Call.{Limits}
 use Rattle.f2_model.specs.declared.rows.Row.{Row}
+use Rattle.f2_model.specs.declared.modes.Format.{Format}
+use Rattle.f2_model.specs.declared.modes.Format.TheVariants.{One, Two}
+use Rattle.f2_model.specs.declared.modes.Mode.{Mode}
+use Rattle.f2_model.specs.declared.modes.Mode.TheVariants.{Shut}
 use Rattle.f2_model.specs.declared.requests.Request.{Request}
 use Rattle.f2_model.specs.declared.requests.Request.TheVariants.{Write, Truncate, Unlink, Rename}
 use Rattle.f2_model.specs.declared.replies.Plan.{Plan}
@@ -21,11 +25,17 @@ pub record Mark : Type 0 where
   pub ino : ℕ
   pub row : Row
 
--- whether the volume is closed, has found its tree and makes the checkpoint of its mount, or is open
-pub data Mode : Type 0 where
-  Shut : Mode
-  Mounting : Mode
-  Up : Mode
+-- the number of a format, as a choice tells it
+abbrev pub number_of : Format → ℕ
+number_of One = 1
+number_of Two = 2
+
+-- what an image is left as: a base with the rows that were marked since, the image's format, and its checkpoint's version
+pub record Meaning : Type 0 where
+  pub base : Rows
+  pub marks : List Mark
+  pub format : Format
+  pub version : ℕ
 
 -- what an fsync has still to write: pages, then nodes, then nothing but its last flush
 pub data Part : Type 0 where
@@ -33,15 +43,38 @@ pub data Part : Type 0 where
   InNodes : Part
   Marked : Part
 
--- how far an fsync is
-pub record Stage : Type 0 where
+-- what is to be written at a position of the node log that was drawn: a direct node of the file, or its marked inode
+pub data Drawn : Type 0 where
+  DrawnNode : ℕ → Drawn
+  DrawnMark : Drawn
+
+-- a position of the node log that was drawn and isn't written yet
+pub record Slot : Type 0 where
+  pub position : ℕ
+  pub drawn : Drawn
+
+-- what an fsync has done so far
+pub record Progress : Type 0 where
   pub part : Part
-  -- the place of its mark among the marks, once it is there
+  -- the place of its mark among the marks, and its position in the node log, once they are drawn
   pub place : ℕ
+  pub position : ℕ
+  -- its open position: one that was drawn and whose block isn't written
+  pub slot : Option Slot
+
+-- the progress of an fsync that begins, of one that flushed its pages, and of one that drew its mark
+abbrev pub fresh_progress : Progress
+fresh_progress = record { part = InPages; place = 0; position = 0; slot = None }
+
+abbrev pub in_nodes : Option Slot → Progress
+in_nodes slot = record { part = InNodes; place = 0; position = 0; slot = slot }
+
+abbrev pub marked_at : ℕ → ℕ → Option Slot → Progress
+marked_at place position slot = record { part = Marked; place = place; position = position; slot = slot }
 
 -- a call in flight: an fsync of a file, or a checkpoint
 pub data Flight : Type 0 where
-  InFsync : ℕ → Stage → Flight
+  InFsync : ℕ → Progress → Flight
   InCheck : Plan → Flight
 
 -- pairs of an ino and a page, or of an ino and the offset of a node, by the ino first
@@ -64,6 +97,10 @@ pub record State : Type 0 where
   pub acknowledged : ℕ
   -- the tree of a checkpoint whose tail was written
   pub pending : Option Rows
+  -- the format and the version of the base's checkpoint, and the format that the checkpoint in flight writes
+  pub format : Format
+  pub version : ℕ
+  pub next_format : Format
   pub mode : Mode
   -- the seats with a call in flight
   pub flights : map.FinMap nat_cmp Flight
@@ -80,19 +117,22 @@ pub record State : Type 0 where
   -- the length of the history
   pub entries : ℕ
 
--- a base with marked rows put in place under their inos, in order
+-- a base with marked rows put in place under their inos, in order (recover_data of fs/f2fs/recovery.c)
 abbrev pub rolled : Rows → List Mark → Rows
 rolled base [] = base
 rolled base (mark ∷ marks) = rolled (map.insert base mark.ino mark.row) marks
 
--- the state in which nothing is known but what a mount will find: a base and marked rows
-abbrev pub initial : Rows → List Mark → State
-initial base marks = record {
-  live = rolled base marks;
-  base = base;
-  marks = marks;
-  acknowledged = length marks;
+-- the state in which nothing is known but what a mount will find
+abbrev pub initial : Meaning → State
+initial meaning = record {
+  live = rolled meaning.base meaning.marks;
+  base = meaning.base;
+  marks = meaning.marks;
+  acknowledged = length meaning.marks;
   pending = None;
+  format = meaning.format;
+  version = meaning.version;
+  next_format = meaning.format;
   mode = Shut;
   flights = map.empty;
   dirty_pages = set.empty;
@@ -105,11 +145,18 @@ initial base marks = record {
   entries = 0;
 }
 
+-- the base with the marks up to a place, and the tree of a checkpoint whose tail was written
+abbrev pub base_up_to : State → ℕ → Meaning
+base_up_to state place = record { base = state.base; marks = take place state.marks; format = state.format; version = state.version }
+
+abbrev pub pending_with : State → Rows → Meaning
+pending_with state tree = record { base = tree; marks = []; format = state.next_format; version = state.version + 1 }
+
 -- what a crash may leave of a state: the base with the marks up to any place from the last acknowledged on, or a pending tree
-abbrev pub MayRemain : State → Rows → List Mark → Type 0
-MayRemain state base marks =
-    ((k : ℕ) × (state.acknowledged ≤ k) × (k ≤ length state.marks) × (base ≡ state.base) × (marks ≡ take k state.marks))
-    ⊎ ((state.pending ≡ Some base) × (marks ≡ []))
+abbrev pub MayRemain : State → Meaning → Type 0
+MayRemain state meaning =
+    ((place : ℕ) × (state.acknowledged ≤ place) × (place ≤ length state.marks) × (meaning ≡ base_up_to state place))
+    ⊎ ((tree : Rows) × (state.pending ≡ Some tree) × (meaning ≡ pending_with state tree))
 
 -- the inos that a new row may get: a number of a node that neither a row of the tree or the base has, nor a node of the node log
 pub record IsFreeIno (limits : Limits) (state : State) (ino : ℕ) : Type 0 where
@@ -160,24 +207,24 @@ dirtied state before after now_touched now_removed =
       shrunk = if list_any (λ offset. not (has_direct after offset)) lost then set.insert state.shrunk ino else state.shrunk;
     }
 
--- the rows at the end of a walk in the trees before and after a call, where both are there
-abbrev pub with_rows : State → Result Row Reply → Result Row Reply → (Row → Row → State) → State
-with_rows state (Ok before) (Ok after) next = next before after
-with_rows state (Ok before) (Err refusal) next = state
-with_rows state (Err refusal) after next = state
+-- a state that follows from the rows at the end of a walk in the trees before and after a call, and the state itself where one isn't there
+abbrev pub from_both_rows : State → Result Row Reply → Result Row Reply → (Row → Row → State) → State
+from_both_rows state (Ok before) (Ok after) next = next before after
+from_both_rows state (Ok before) (Err refusal) next = state
+from_both_rows state (Err refusal) after next = state
 
-abbrev pub with_row : State → Result Row Reply → (Row → State) → State
-with_row state (Ok row) next = next row
-with_row state (Err refusal) next = state
+abbrev pub from_row : State → Result Row Reply → (Row → State) → State
+from_row state (Ok row) next = next row
+from_row state (Err refusal) next = state
 
 -- what a call of one event that took effect changes beside the tree, where the tree after it is given
 abbrev pub marked_dirty : State → Request → Rows → State
 marked_dirty state (Write path pieces) after =
-    with_rows state (walk state.live path) (walk after path) (λ old new. dirtied state old new (touched old (Write path pieces)) (removed old (Write path pieces)))
+    from_both_rows state (walk state.live path) (walk after path) (λ old new. dirtied state old new (touched old (Write path pieces)) (removed old (Write path pieces)))
 marked_dirty state (Truncate path size) after =
-    with_rows state (walk state.live path) (walk after path) (λ old new. dirtied state old new (touched old (Truncate path size)) (removed old (Truncate path size)))
+    from_both_rows state (walk state.live path) (walk after path) (λ old new. dirtied state old new (touched old (Truncate path size)) (removed old (Truncate path size)))
 marked_dirty state (Unlink path) after =
-    with_row state (walk state.live path) (λ row. record state { dirty_pages = without_ino row.ino state.dirty_pages; dirty_nodes = without_ino row.ino state.dirty_nodes })
+    from_row state (walk state.live path) (λ row. record state { dirty_pages = without_ino row.ino state.dirty_pages; dirty_nodes = without_ino row.ino state.dirty_nodes })
 marked_dirty state (Rename from to) after =
-    with_row state (walk state.live from) (λ row. record state { moved = set.insert state.moved row.ino })
+    from_row state (walk state.live from) (λ row. record state { moved = set.insert state.moved row.ino })
 marked_dirty state _ after = state

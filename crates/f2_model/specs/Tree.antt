@@ -22,6 +22,13 @@ Rows = map.FinMap nat_cmp Row
 abbrev pub ROOT : ℕ
 ROOT = 3
 
+-- the tree of the root alone
+abbrev pub root_row : Row
+root_row = record { ino = ROOT; kind = Directory; parent = ROOT; name = []; size = 0; pages = map.empty }
+
+abbrev pub root_alone : Rows
+root_alone = map.insert map.empty ROOT root_row
+
 -- the deepest that a directory may stand; a file may stand one below
 abbrev pub MOST_DEPTH : ℕ
 MOST_DEPTH = 15

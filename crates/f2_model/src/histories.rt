@@ -2,9 +2,13 @@
 ghost use Rattle.std.specs.Prelude.{◌≡◌, ◌+◌, ◌<◌, [], ◌∷◌, ◌++◌, length, max, option_to_list, slice_get, OnOk, OnErr};
 
 use crate::replies::{Outcome, Plan};
-use crate::requests::Request;
+use crate::requests::BoxedRequest;
 use std::alloc::{AllocError, Global};
 use std::marker::Model;
+use std::mem::size_of;
+
+/// A call begins only while the history has fewer entries.
+pub const MOST_ENTRIES: usize = 262_144;
 
 /// A kind of call of a disk.
 #[derive(Clone, Copy, Debug, PartialEq, Eq)]
@@ -14,18 +18,18 @@ pub enum CallKind {
     Flush,
 }
 
-/// One entry of the history.
+/// One entry of the history, of at most 32 bytes.
 #[derive(Debug, Drop)]
 pub enum Entry {
     /// A call of several events began.
     Begin {
         seat: u8,
-        request: Request,
+        request: BoxedRequest,
     },
     /// A call of one event was answered.
     Did {
         seat: u8,
-        request: Request,
+        request: BoxedRequest,
         outcome: Outcome,
     },
     /// A page was written.
@@ -80,6 +84,8 @@ pub enum Entry {
     /// The volume was unmounted.
     Unmounted,
 }
+
+const _: () = prove!(size_of::<Entry>() <= 32);
 
 /// The history: its entries, and the choices that the tree doesn't determine.
 #[derive(Debug, Drop)]

@@ -7,14 +7,17 @@
 //! it before.
 //!
 //! What a call does to a tree, which steps a volume may take, and what a crash may leave is defined
-//! in `specs/`: `Names`, `Content`, `Tree`, `Call`, `State`, `Fallback`, `Step`, `Run`, `History`.
+//! in `specs/`: `Names`, `Content`, `Tree`, `Call`, `State`, `Fallback`, `Step` with the tables of its
+//! events (`Begins`, `Goes`, `Ticks`, `Mounts`), `Run`, `History`, `Machine`.
 #![tactic(auto)]
 
 mod bounds;
+mod events;
 mod histories;
 mod lists;
 mod machines;
 mod meets;
+mod modes;
 mod names;
 mod page_maps;
 mod paths;
@@ -24,12 +27,14 @@ mod rows;
 mod trees;
 
 pub use bounds::Limits;
-pub use histories::{CallKind, Entry, Log};
+pub use events::{Answer, Event, MOUNT_SEAT, MountRefusal, NO_SEAT};
+pub use histories::{CallKind, Entry, Log, MOST_ENTRIES};
 pub use lists::{Bytes, Items, Name, Names, Numbers, Path};
 pub use machines::Machine;
 pub use meets::Meet;
+pub use modes::{Format, Mode};
 pub use page_maps::{Block, Pages};
 pub use replies::{Begun, Outcome, Plan, Reason, Replies, Reply, Space, Step, Tick};
-pub use requests::{Piece, Pieces, Request};
+pub use requests::{BoxedRequest, Piece, Pieces, Request};
 pub use rows::{Kind, Row};
-pub use trees::Tree;
+pub use trees::{ROOT, Tree};

@@ -3,6 +3,7 @@ ghost use Rattle.std.specs.Prelude.{◌≡◌, IfOk};
 
 use crate::lists::{Items, Path};
 use std::alloc::{AllocError, Global};
+use std::marker::Model;
 
 /// One run of equal bytes to be written.
 #[derive(Clone, Copy, Debug, PartialEq, Eq)]
@@ -76,5 +77,39 @@ impl Request {
             Request::Fsync { path } => path.copy(alloc).map(|path| Request::Fsync { path }),
             Request::Sync => Ok(Request::Sync),
         }
+    }
+}
+
+/// A request behind one pointer, as an entry of the history keeps it.
+#[derive(Debug, Drop)]
+pub struct BoxedRequest {
+    request: Box<Request>,
+}
+
+impl Model for BoxedRequest {
+    ghost use Rattle.f2_model.specs.declared.requests.Request.{Request};
+    ghost use Rattle.f2_model.specs.contracts.requests.Request as row;
+
+    ghost Value = { Request };
+
+    ghost coded = { row.the_row.coded };
+
+    ghost view = { λ boxed. boxed.request.value };
+}
+
+impl BoxedRequest {
+    /// Moves a request behind a pointer. Where memory is refused the request is gone.
+    pub fn new(alloc: Global, request: Request) -> Result<BoxedRequest, AllocError>
+        ensures { IfOk result (λ boxed. boxed ≡ request) }
+    {
+        let request = Box::new(alloc, request)?;
+        Ok(BoxedRequest { request })
+    }
+
+    /// The request.
+    pub fn get(&self) -> &Request
+        ensures { result.now ≡ self.now }
+    {
+        &self.request
     }
 }

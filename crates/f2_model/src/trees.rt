@@ -3,14 +3,20 @@ ghost use Rattle.std.specs.Prelude.{◌≡◌, ◌^◌, ◌<◌, Some, None, len
 ghost use Rattle.std.specs.FinMap as map;
 ghost use Rattle.std.specs.Map.Iter.{ShowsInOrder, deref};
 ghost use Rattle.std.specs.Option.{option_copied};
+ghost use Rattle.f2_model.specs.Tree.{root_alone};
 ghost use Rattle.f2_model.specs.declared.rows.Row.{Row};
 
-use crate::rows::Row;
+use crate::lists::Name;
+use crate::page_maps::Pages;
+use crate::rows::{Kind, Row};
 use std::alloc::{AllocError, Global};
 use std::collections::BTreeMap;
 use std::collections::btree_map::Values;
 use std::marker::Model;
 use std::mem;
+
+/// The number of the root (F2FS_ROOT_INO).
+pub const ROOT: u32 = 3;
 
 /// The rows of a volume, by their inos.
 #[derive(Debug, Drop)]
@@ -43,6 +49,22 @@ impl Tree {
             rows: BTreeMap::new(alloc),
             alloc,
         }
+    }
+
+    /// The tree of the root alone.
+    pub fn root_alone(alloc: Global) -> Result<Tree, AllocError>
+        ensures { IfOk result (λ tree. tree ≡ root_alone) }
+    {
+        let mut tree = Tree::new(alloc);
+        tree.put(Row {
+            ino: ROOT,
+            kind: Kind::Directory,
+            parent: ROOT,
+            name: Name::new(alloc),
+            size: 0,
+            pages: Pages::new(alloc),
+        })?;
+        Ok(tree)
     }
 
     /// The number of rows.
