@@ -2,7 +2,8 @@
 -- counts where head and tail agree, that there are two, and that the greater version counts is F2FS's
 -- (validate_checkpoint and f2fs_get_valid_checkpoint of checkpoint.c); the fields of the head and the
 -- conditions on them are this project's own. Bytes that no field covers are written as 0 and not looked at.
-use Rattle.std.specs.Prelude.{◌≡◌, ℕ, ◌+◌, ◌≤◌, List, [], ◌∷◌, slice_range, IsTrue}
+use Rattle.std.specs.Prelude.{◌≡◌, ℕ, ◌+◌, ◌*◌, ◌%◌, ◌^◌, ◌≤◌, ◌==◌, Bool, if◌then◌else◌, List, [], ◌∷◌, slice_range, IsTrue}
+use Rattle.std.specs.Int.{bit_at}
 use Rattle.f2_format.specs.Bytes.{BLOCK_BYTES, number_at, number_bytes, with_bytes, with_fields, zeros}
 use Rattle.f2_format.specs.Geometry.{Extent, is_in_node}
 use Rattle.f2_format.specs.Nat.{BITMAP_BYTES}
@@ -65,6 +66,24 @@ sealed block = with_bytes block SEAL_START (number_bytes 4 (seal_of block))
 -- the head with these fields
 abbrev pub head_block : HeadFields → List ℕ
 head_block head = sealed (unsealed_head head)
+
+-- whether a head tells the newer of the two formats of an image, by bit 0 of its flags; the other bits are written as 0 and not
+-- looked at
+abbrev pub is_newer_format : HeadFields → Bool
+is_newer_format head = bit_at head.flags 0 == 1
+
+abbrev pub NEWER_FORMAT : ℕ
+NEWER_FORMAT = 1
+
+-- the seal of the head that is written with these fields, in the newer format
+abbrev pub written_seal : HeadFields → ℕ
+written_seal head = seal_of (unsealed_head (record head { flags = NEWER_FORMAT }))
+
+-- The version that a block of the node log carries after a checkpoint with this head: the checkpoint's own, and in the newer format
+-- also the seal of the head in the upper half, so that two checkpoints of one version, made from copies of one image, are told
+-- apart. (cur_cp_version of f2fs.h in the same way takes the check sum of the checkpoint.)
+abbrev pub recovery_version_of : HeadFields → ℕ
+recovery_version_of head = if is_newer_format head then (head.version + 2 ^ 32 * written_seal head) % 2 ^ 64 else head.version
 
 -- a pack with this head and this tail counts in an image of this size
 pub record IsPack (extent : Extent) (head tail : List ℕ) : Type 0 where

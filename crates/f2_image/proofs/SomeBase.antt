@@ -3,7 +3,7 @@ use Rattle.std.proofs.Common.{◌≡◌, ◌≢◌, ℕ, ◌+◌, ◌*◌, ◌<�
 use Rattle.std.specs.Prelude.{Option, Some, None}
 use Rattle.std.specs.FinMap as map
 use Rattle.std.proofs.lemmas.Option.{none-some, same_Some}
-use native.Mathlib.Decide.{ℕ_discrete}
+use native.Mathlib.Decide.{ℕ_discrete, dec_lt}
 use Rattle.f2_format.specs.Offsets.{page_limit}
 use Rattle.f2_format.specs.Geometry.{Extent, node_start, node_third, is_in_node, nid_limit}
 use Rattle.f2_format.specs.Inode.{inode_of}
@@ -19,7 +19,8 @@ use Rattle.f2_image.specs.Nodes.{node, node_address, block_there, page_address}
 use Rattle.f2_image.specs.Bases.{IsInode, HasDentryAt, HasDentry, IsReached, HasContent, IsBaseRow, StandsAs, IsBase, inode_kind}
 use Rattle.f2_image.specs.Bases as bases
 use Rattle.f2_image.specs.Reached as reached
-use Rattle.f2_image.specs.Faults.{IsBelow, IsSound, Which, BadNat, BadInode, BadTree, VersionEnd}
+use Rattle.f2_format.specs.Journal.{journal_count, MOST_JOURNAL_ENTRIES}
+use Rattle.f2_image.specs.Faults.{IsBelow, IsSound, HasTable, Which, Journal, BadNat, BadInode, BadTree, VersionEnd}
 use Rattle.f2_image.specs.Faults as faults
 use Rattle.f2_image.proofs.Limited.{some_below, MapBelow, map_below}
 use Rattle.f2_image.proofs.Dentries.{node_in_table, same_dentry}
@@ -94,26 +95,37 @@ module _ (image : Image) (point : Checkpoint) where
       )
 
 module _ (image : Image) (point : Checkpoint) (sound : IsSound image point) where
+  -- the table can be read
+  table : HasTable point
+  table = by_order (dec_lt MOST_JOURNAL_ENTRIES (journal_count point.summary))
+    where
+      not_end : Journal ≢ VersionEnd
+      not_end same = cc
+
+      by_order : Dec (MOST_JOURNAL_ENTRIES < journal_count point.summary) → HasTable point
+      by_order (yes many) = absurd (sound Journal (journal_count point.summary) not_end (many, refl))
+      by_order (no few) = omega (arith, few)
+
   -- an ino of the base has an inode of one of the two kinds
   has_node : (ino : ℕ) → IsReached image point ino → (inode : List ℕ) × (node image point ino ≡ Some inode)
   has_node ino reach = by_address (there_or_not image (node_address image point ino))
     where
       by_address : (node_address image point ino ≡ 0) ⊎ ((block : List ℕ) × (node image point ino ≡ Some block)) → (inode : List ℕ) × (node image point ino ≡ Some inode)
-      by_address (inl e) = absurd (sound BadNat ino bad_nat (faults.nowhere ino 0 (reached.inode ino reach) (outside point.extent (node_address image point ino) e)))
+      by_address (inl e) = absurd (sound BadNat ino bad_nat (table, faults.nowhere ino 0 (reached.inode ino reach) (outside point.extent (node_address image point ino) e)))
       by_address (inr found) = found
 
   has_inode : (ino : ℕ) → IsReached image point ino → (kind : Kind) × ((inode : List ℕ) × IsInode image point ino kind inode)
   has_inode ino reach = by_kind (has_node ino reach).0 (has_node ino reach).1 (inode_kind (has_node ino reach).0) refl
     where
       by_kind : (inode : List ℕ) → node image point ino ≡ Some inode → (o : Option Kind) → inode_kind inode ≡ o → (kind : Kind) × ((inode : List ℕ) × IsInode image point ino kind inode)
-      by_kind inode there None e = absurd (sound BadInode (node_address image point ino) bad_inode (faults.in_base ino inode reach there refl (inl e)))
+      by_kind inode there None e = absurd (sound BadInode (node_address image point ino) bad_inode (faults.in_base table ino inode reach there refl (inl e)))
       by_kind inode there (Some kind) e = (kind, (inode, record { there = there; is_kind = e }))
 
   -- no ino stands too deep
   depth_within : (depth ino : ℕ) → IsBelow image point depth ino → depth < past_depth
   depth_within depth ino is =
       let found = has_inode ino (reached_of image point depth ino is) in
-      most_is_less found.0 depth (λ deep. sound BadTree ino bad_tree (faults.too_deep depth found.0 found.1.0 is found.1.1 deep))
+      most_is_less found.0 depth (λ deep. sound BadTree ino bad_tree (table, faults.too_deep depth found.0 found.1.0 is found.1.1 deep))
 
   -- whether an ino is in the base
   is_reached : (ino : ℕ) → Dec (IsReached image point ino)
@@ -125,7 +137,7 @@ module _ (image : Image) (point : Checkpoint) (sound : IsSound image point) wher
 
   -- a dentry names no ino below 4, so not the root
   not_root : (directory : ℕ) (dentry : Dentry) → IsReached image point directory → HasDentry image point directory dentry → dentry.ino ≡ ROOT → ⊥
-  not_root directory dentry up has e = sound BadTree dentry.ino bad_tree (faults.too_low directory dentry up has refl (omega (arith, e)))
+  not_root directory dentry up has e = sound BadTree dentry.ino bad_tree (table, faults.too_low directory dentry up has refl (omega (arith, e)))
 
   -- two dentries of one ino are the same
   one_dentry : (directory other : ℕ) (a b : Dentry) → IsReached image point directory → IsReached image point other → HasDentry image point directory a → HasDentry image point other b → a.ino ≡ b.ino
@@ -133,7 +145,7 @@ module _ (image : Image) (point : Checkpoint) (sound : IsSound image point) wher
   one_dentry directory other a b up up_other (page, slot, p) (more, place, q) same = by_parts (ℕ_discrete directory other) (ℕ_discrete page more) (ℕ_discrete slot place)
     where
       differ : (directory ≢ other) ⊎ (page ≢ more) ⊎ (slot ≢ place) → ⊥
-      differ apart = sound BadTree b.ino bad_tree (faults.twice directory page slot other more place a b up up_other p q apart same refl)
+      differ apart = sound BadTree b.ino bad_tree (table, faults.twice directory page slot other more place a b up up_other p q apart same refl)
 
       by_parts : Dec (directory ≡ other) → Dec (page ≡ more) → Dec (slot ≡ place) → (directory ≡ other) × (a ≡ b)
       by_parts (no apart) x y = absurd (differ (inl apart))

@@ -45,6 +45,11 @@ IsVersionEnd point at = (MOST_VERSION < point.head.version) × (at ≡ point.hea
 abbrev pub IsBadJournal : Checkpoint → ℕ → Type 0
 IsBadJournal point at = (MOST_JOURNAL_ENTRIES < journal_count point.summary) × (at ≡ journal_count point.summary)
 
+-- the node address table can be read: its journal has no more entries than it can; no condition that needs the table stands where it
+-- can't
+abbrev pub HasTable : Checkpoint → Type 0
+HasTable point = journal_count point.summary ≤ MOST_JOURNAL_ENTRIES
+
 -- nids of the journal: twice there, or past the table
 pub data IsBadEntry (point : Checkpoint) (nid : ℕ) : Type 0 where
   twice : 2 ≤ count_by (λ entry. entry.0 == nid) (journal point) → IsBadEntry point nid
@@ -81,7 +86,7 @@ abbrev pub IsOdd : List ℕ → Type 0
 IsOdd block = (inode_kind block ≡ None) ⊎ (NAME_BYTES < (inode_of block).name_length) ⊎ (SIZE_LIMIT < (inode_of block).size)
 
 pub data IsBadInode (image : Image) (point : Checkpoint) (at : ℕ) : Type 0 where
-  in_base : (ino : ℕ) (block : List ℕ) → IsReached image point ino → node image point ino ≡ Some block → node_address image point ino ≡ at → IsOdd block → IsBadInode image point at
+  in_base : HasTable point → (ino : ℕ) (block : List ℕ) → IsReached image point ino → node image point ino ≡ Some block → node_address image point ino ≡ at → IsOdd block → IsBadInode image point at
   in_log : (place : ℕ) (block : List ℕ) → IsMarkedAt image point place block → (slice_index_or (chain image point) place no_block).at ≡ at → IsOdd block → IsBadInode image point at
 
 -- a block of a directory has a wrong name in it
@@ -100,7 +105,7 @@ IsChainLong image point at =
 
 -- an address outside its zone: of a page, or of the next block of the node log
 pub data IsOutOfZone (image : Image) (point : Checkpoint) (at : ℕ) : Type 0 where
-  page : (ino page : ℕ) → IsPage image point ino page at → is_in_data point.extent at ≡ false → IsOutOfZone image point at
+  page : HasTable point → (ino page : ℕ) → IsPage image point ino page at → is_in_data point.extent at ≡ false → IsOutOfZone image point at
   next : (place : ℕ) → place < length (chain image point) → footer_next (slice_index_or (chain image point) place no_block).block ≡ at → at ≢ 0 → is_in_node point.extent at ≡ false → IsOutOfZone image point at
 
 -- an address that two have: two pages, two nodes of the base, a node of the base and a block of the node log
@@ -220,16 +225,16 @@ StandsAt BadSuper image point at = ⊥
 StandsAt NoCheckpoint image point at = ⊥
 StandsAt VersionEnd image point at = IsVersionEnd point at
 StandsAt Journal image point at = IsBadJournal point at
-StandsAt BadNat image point at = IsBadNat image point at
+StandsAt BadNat image point at = HasTable point × IsBadNat image point at
 StandsAt BadInode image point at = IsBadInode image point at
-StandsAt DentFault image point at = HasDentryFault image point at
+StandsAt DentFault image point at = HasTable point × HasDentryFault image point at
 StandsAt ChainLong image point at = IsChainLong image point at
 StandsAt OutOfZone image point at = IsOutOfZone image point at
-StandsAt Shared image point at = IsShared image point at
-StandsAt Conflict image point at = IsConflict image point at
-StandsAt NoParent image point at = HasNoParent image point at
-StandsAt BadTree image point at = IsBadTree image point at
-StandsAt TooFull image point at = IsTooFull image point at
+StandsAt Shared image point at = HasTable point × IsShared image point at
+StandsAt Conflict image point at = HasTable point × IsConflict image point at
+StandsAt NoParent image point at = HasTable point × HasNoParent image point at
+StandsAt BadTree image point at = HasTable point × IsBadTree image point at
+StandsAt TooFull image point at = HasTable point × IsTooFull image point at
 
 -- a condition stands in an image, with this number
 abbrev pub Stands : Which → Image → ℕ → Type 0

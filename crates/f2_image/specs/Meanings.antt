@@ -1,13 +1,13 @@
 -- What an image stands for, and when a disk is safe: whatever a crash leaves of it stands for what the machine allows.
-use Rattle.std.specs.Prelude.{ℕ, ◌≤◌, List, IsTrue}
+use Rattle.std.specs.Prelude.{◌≡◌, ℕ, ◌%◌, ◌^◌, ◌≤◌, List, IsTrue}
 use Rattle.f2_format.specs.Geometry.{is_in_node}
 use Rattle.f2_format.specs.Footer.{footer_version}
 use Rattle.f2_format.specs.Pack.{head_of}
 use Rattle.f2_disk.specs.Contents.{Contents, IsImage}
 use Rattle.f2_model.specs.Tree.{Rows}
-use Rattle.f2_model.specs.State.{State, Mark, MayRemain}
+use Rattle.f2_model.specs.State.{State, Mark, Meaning, MayRemain}
 use Rattle.f2_image.specs.Images.{Image, block_at}
-use Rattle.f2_image.specs.Packs.{Side, tail_address, Checkpoint, IsCheckpoint}
+use Rattle.f2_image.specs.Packs.{Side, tail_address, Checkpoint, IsCheckpoint, format_of}
 use Rattle.f2_image.specs.Bases.{IsBase}
 use Rattle.f2_image.specs.Chains.{AreMarks}
 use Rattle.f2_image.specs.Faults.{IsSound}
@@ -22,21 +22,23 @@ pub record MeansAt (image : Image) (point : Checkpoint) (base : Rows) (marks : L
 abbrev pub Means : Image → Rows → List Mark → Type 0
 Means image base marks = (point : Checkpoint) × MeansAt image point base marks
 
--- no block and no tail of an image is of a later version than its checkpoint, so none can come to count by itself
+-- no block and no tail of an image is of a later version than its checkpoint, so none can come to count by itself; of what a block
+-- carries the lower half tells the checkpoint's version
 pub record IsCleanAt (image : Image) (point : Checkpoint) : Type 0 where
-  pub nodes : (at : ℕ) → IsTrue (is_in_node point.extent at) → footer_version (block_at image at) ≤ point.head.version
+  pub nodes : (at : ℕ) → IsTrue (is_in_node point.extent at) → footer_version (block_at image at) % 2 ^ 32 ≤ point.head.version
   pub tails : (side : Side) → (head_of (block_at image (tail_address side))).version ≤ point.head.version
 
 abbrev pub IsClean : Image → Type 0
 IsClean image = (point : Checkpoint) × IsCheckpoint image point × IsCleanAt image point
 
--- an image stands for what may remain of a state, and is clean
+-- an image stands for what may remain of a state, is of that version and format, and is clean
 pub record IsLeft (state : State) (image : Image) : Type 0 where
   pub point : Checkpoint
-  pub base : Rows
-  pub marks : List Mark
-  pub remains : MayRemain state base marks
-  pub means : MeansAt image point base marks
+  pub meaning : Meaning
+  pub remains : MayRemain state meaning
+  pub means : MeansAt image point meaning.base meaning.marks
+  pub version : point.head.version ≡ meaning.version
+  pub format : format_of point ≡ meaning.format
   pub clean : IsCleanAt image point
 
 -- a crash leaves an image of a disk, and each that it may leave is such a one

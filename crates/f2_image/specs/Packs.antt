@@ -1,9 +1,11 @@
 -- The checkpoint that counts: the valid pack with the greater version, A at a tie (f2fs_get_valid_checkpoint of
 -- checkpoint.c).
-use Rattle.std.specs.Prelude.{◌≡◌, ℕ, ◌+◌, ◌<◌, ◌≤◌, List}
+use Rattle.std.specs.Prelude.{◌≡◌, ℕ, ◌+◌, ◌<◌, ◌≤◌, if◌then◌else◌, List}
 use Rattle.f2_format.specs.Geometry.{Extent, PACK_A, PACK_B}
-use Rattle.f2_format.specs.Pack.{HeadFields, head_of, IsPack}
+use Rattle.f2_format.specs.Pack.{HeadFields, head_of, IsPack, is_newer_format, recovery_version_of}
 use Rattle.f2_format.specs.Journal.{JournalList, journal_of}
+use Rattle.f2_model.specs.declared.modes.Format.{Format}
+use Rattle.f2_model.specs.declared.modes.Format.TheVariants.{One, Two}
 use Rattle.f2_image.specs.Images.{Image, block_at, IsSized}
 
 -- the two packs
@@ -61,6 +63,10 @@ pub record IsCheckpoint (image : Image) (point : Checkpoint) : Type 0 where
 abbrev pub journal : Checkpoint → JournalList
 journal point = journal_of point.summary
 
+-- the format of an image
+abbrev pub format_of : Checkpoint → Format
+format_of point = if is_newer_format point.head then Two else One
+
 -- the version that a block of the node log carries
 abbrev pub recovery_version : Checkpoint → ℕ
-recovery_version point = point.head.version
+recovery_version point = recovery_version_of point.head

@@ -1,6 +1,6 @@
 -- An image in which each node is an inode, the node log and the journal are empty, and the same copy of every block of
 -- the node address table counts.
-use Rattle.std.specs.Prelude.{◌≡◌, ◌≢◌, ℕ, ◌<◌, ◌≤◌, ◌==◌, not, List, [], length, IsTrue, All, slice_index_or, Option, Some, None}
+use Rattle.std.specs.Prelude.{◌≡◌, ◌≢◌, ℕ, ◌^◌, ◌<◌, ◌≤◌, ◌==◌, true, not, List, length, IsTrue, All, slice_index_or, Option, Some, None}
 use Rattle.std.specs.List.{count_by, slice_get, sum_by}
 use Rattle.std.specs.Ordering.{nat_cmp}
 use Rattle.std.specs.FinMap as map
@@ -10,10 +10,11 @@ use Rattle.f2_format.specs.Nat.{is_second_copy}
 use Rattle.f2_format.specs.Footer.{footer_nid, footer_ino, footer_offset, footer_version}
 use Rattle.f2_format.specs.Inode.{inode_of, NAME_BYTES, NIDS_AN_INODE, SIZE_LIMIT}
 use Rattle.f2_format.specs.Journal.{journal_count}
-use Rattle.f2_format.specs.Pack.{head_of}
+use Rattle.f2_format.specs.Pack.{head_of, is_newer_format}
 use Rattle.f2_format.specs.Dentry.{Dentry}
 use Rattle.f2_model.specs.Rising.{rising}
 use Rattle.f2_model.specs.Tree.{Rows, ROOT, IsGoodTree, names_in}
+pub use Rattle.f2_model.specs.Tree.{root_row, root_alone}
 use Rattle.f2_model.specs.Count.{nodes_of_tree, data_of_tree, dentry_blocks}
 use Rattle.f2_model.specs.declared.rows.Row.{Row}
 use Rattle.f2_model.specs.declared.rows.Kind.TheVariants.{Regular, Directory}
@@ -126,6 +127,8 @@ pub record IsLaidAt (image : Image) (point : Checkpoint) (tree : Rows) (stored :
   pub extent : point.extent ≡ stored.geometry
   pub side : point.side ≡ side_of stored.side
   pub version : point.head.version ≡ stored.version
+  pub low : point.head.version < 2 ^ 32
+  pub newer : is_newer_format point.head ≡ true
   pub copies : (block : ℕ) → block < stored.geometry.nat → is_second_copy point.head.bitmap block ≡ stored.second
   pub journal : journal_count point.summary ≡ 0
   pub table : (nid : ℕ) → nid < nid_limit point.extent → (place_of_nid image point nid).1 ≡ at_of (map.get stored.places nid)
@@ -138,10 +141,3 @@ pub record IsLaidAt (image : Image) (point : Checkpoint) (tree : Rows) (stored :
 
 abbrev pub IsLaid : Image → Rows → Stored → Type 0
 IsLaid image tree stored = (point : Checkpoint) × IsLaidAt image point tree stored
-
--- the tree of the root alone, which a new image has
-abbrev pub root_row : Row
-root_row = record { ino = ROOT; kind = Directory; parent = ROOT; name = []; size = 0; pages = map.empty }
-
-abbrev pub root_alone : Rows
-root_alone = map.insert map.empty ROOT root_row

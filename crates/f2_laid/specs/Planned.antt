@@ -1,12 +1,12 @@
 -- Which blocks make an image of a tree.
-use Rattle.std.specs.Prelude.{◌≡◌, ◌≢◌, ℕ, ◌+◌, ◌*◌, ◌<◌, List, [], ◌∷◌, map as map_list, All, Contains, slice_set, Option, Some, None}
+use Rattle.std.specs.Prelude.{◌≡◌, ◌≢◌, ℕ, ◌+◌, ◌*◌, ◌^◌, ◌<◌, true, List, [], ◌∷◌, map as map_list, All, Contains, slice_set, Option, Some, None}
 use Rattle.std.specs.FinMap as map
 use Rattle.f2_format.specs.Offsets.{inode_pages}
 use Rattle.f2_format.specs.Geometry.{ENTRIES_A_NAT_BLOCK, nat_address}
 use Rattle.f2_format.specs.Nat.{nat_entry, is_second_copy}
 use Rattle.f2_format.specs.Footer.{footer_version}
 use Rattle.f2_format.specs.Journal.{journal_count}
-use Rattle.f2_format.specs.Pack.{IsPack, head_of}
+use Rattle.f2_format.specs.Pack.{IsPack, head_of, is_newer_format}
 use Rattle.f2_model.specs.Tree.{Rows}
 use Rattle.f2_model.specs.declared.rows.Row.{Row}
 use Rattle.f2_image.specs.Images.{Image}
@@ -58,6 +58,8 @@ pub record WritesTable (plan : List Planned) (stored : Stored) (block : ℕ) : T
 pub record IsHeadOf (stored : Stored) (block : List ℕ) : Type 0 where
   pub pack : IsPack stored.geometry block block
   pub version : (head_of block).version ≡ stored.version
+  pub low : (head_of block).version < 2 ^ 32
+  pub newer : is_newer_format (head_of block) ≡ true
   pub bitmap : (table : ℕ) → table < stored.geometry.nat → is_second_copy (head_of block).bitmap table ≡ stored.second
 
 -- an address at which such a plan writes: of a file, of the table's copy, or of the pack before its tail

@@ -50,7 +50,7 @@ module _ (image : Image) (point : Checkpoint) (tree : Rows) (stored : Stored) (i
           smaller size limit low high = omega arith
 
   pub right_inode : (at : ℕ) → IsBadInode image point at → ⊥
-  right_inode at (faults.in_base ino block reach there address odd) = not_odd ino block reach there odd
+  right_inode at (faults.in_base read ino block reach there address odd) = not_odd ino block reach there odd
   right_inode at (faults.in_log place block marked address odd) = none_marked image point tree stored is place block marked
 
   -- the blocks of directories
@@ -67,7 +67,7 @@ module _ (image : Image) (point : Checkpoint) (tree : Rows) (stored : Stored) (i
 
   -- addresses
   pub right_zones : (at : ℕ) → IsOutOfZone image point at → ⊥
-  right_zones at (faults.page ino page is_page outside) =
+  right_zones at (faults.page read ino page is_page outside) =
       let base_page = of_base image point tree stored is ino page at is_page in
       let own = own_page image point tree stored is ino page at base_page in
       let inside = is.laid.placed.pages ino page own.at.place own.at.there (λ none. base_page.there (sym own.stands ∙ none)) in

@@ -1,9 +1,10 @@
 -- An image that is laid out plainly has no node log, and so no marks.
-use Rattle.std.proofs.Common.{◌≡◌, ◌≢◌, inl, inr, ℕ, zero, suc, ◌<◌, ◌≤◌, ◌==◌, Bool, true, false, cond, List, [], ◌∷◌, length, refl, sym, ap, ◌∙◌, subst, arith}
+use Rattle.std.proofs.Common.{◌≡◌, ◌≢◌, inl, inr, ℕ, zero, suc, ◌+◌, ◌*◌, ◌%◌, ◌^◌, ◌<◌, ◌≤◌, ◌==◌, Bool, true, false, cond, List, [], ◌∷◌, length, refl, sym, ap, ◌∙◌, subst, arith}
 use Rattle.std.specs.List.{AllZip}
 use Rattle.std.proofs.lemmas.Bool.{ne_eqb}
 use Rattle.f2_format.specs.Geometry.{is_in_node}
 use Rattle.f2_format.specs.Footer.{footer_version, footer_next}
+use Rattle.f2_format.specs.Pack.{HeadFields, is_newer_format, recovery_version_of, written_seal}
 use Rattle.f2_model.specs.Tree.{Rows}
 use Rattle.f2_image.specs.Images.{Image, block_at}
 use Rattle.f2_image.specs.Packs.{Checkpoint, recovery_version}
@@ -23,6 +24,14 @@ none_from image version (suc most) at other =
     ap (λ b. cond (at == 0) [] (cond b (record { at = at; block = block_at image at } ∷ chain_from image version most (footer_next (block_at image at))) [])) (ne_eqb (footer_version (block_at image at)) version other)
     ∙ nothing_twice (at == 0)
 
+-- a version in the lower half and a seal in the upper one are never 0
+some_recovery : (version seal : ℕ) → 1 ≤ version → version < 2 ^ 32 → 0 ≢ (version + 2 ^ 32 * seal) % 2 ^ 64
+some_recovery version seal some low same = absurd (omega (arith, some, low, same))
+
+recovery_there : (head : HeadFields) → 1 ≤ head.version → head.version < 2 ^ 32 → is_newer_format head ≡ true → 0 ≢ recovery_version_of head
+recovery_there head some low newer same =
+    some_recovery head.version (written_seal head) some low (same ∙ ap (λ b. cond b ((head.version + 2 ^ 32 * written_seal head) % 2 ^ 64) head.version) newer)
+
 module _ (image : Image) (point : Checkpoint) (tree : Rows) (stored : Stored) (is : IsStored image point tree stored) where
   pub version_some : 1 ≤ point.head.version
   version_some = subst (λ head. 1 ≤ head.version) (sym is.laid.checkpoint.head) is.laid.checkpoint.newest.valid.version
@@ -34,8 +43,7 @@ module _ (image : Image) (point : Checkpoint) (tree : Rows) (stored : Stored) (i
   unfolding chain
   no_chain =
       let unlogged = is.laid.unlogged point.head.log_start start_inside in
-      let some = version_some in
-      none_from image (recovery_version point) _ point.head.log_start (λ same. omega arith)
+      none_from image (recovery_version point) _ point.head.log_start (λ same. recovery_there point.head version_some is.laid.low is.laid.newer (sym unlogged ∙ same))
 
   pub none_within : (place : ℕ) → place < length (chain image point) → ⊥
   none_within place within = let none : length (chain image point) ≡ 0 = ap (λ (log : List Logged). length log) no_chain in omega arith

@@ -1,5 +1,5 @@
 -- No condition stands in an image that is laid out plainly, and it is clean.
-use Rattle.std.proofs.Common.{◌≡◌, ℕ, [], List, refl, ap, ◌∙◌, arith}
+use Rattle.std.proofs.Common.{◌≡◌, ℕ, ◌%◌, ◌^◌, ◌≤◌, [], List, refl, sym, subst, ap, ◌∙◌, arith}
 use Rattle.f2_format.specs.Geometry.{node_third}
 use Rattle.f2_model.specs.State.{Mark, rolled}
 use Rattle.f2_model.specs.Count.{nodes_of_tree, data_of_tree}
@@ -62,20 +62,20 @@ module _ (image : Image) (point : Checkpoint) (tree : Rows) (stored : Stored) (i
   sound NoCheckpoint at not_end bad = bad
   sound VersionEnd at not_end bad = not_end refl
   sound Journal at not_end bad = let none = is.laid.journal in let many = bad.0 in omega (arith, none, many)
-  sound BadNat at not_end bad = right_table image point tree stored is at bad
+  sound BadNat at not_end bad = right_table image point tree stored is at bad.1
   sound BadInode at not_end bad = right_inode image point tree stored is at bad
-  sound DentFault at not_end bad = right_dentries image point tree stored is at bad
+  sound DentFault at not_end bad = right_dentries image point tree stored is at bad.1
   sound ChainLong at not_end bad = none_within image point tree stored is (node_third point.extent) bad.0
   sound OutOfZone at not_end bad = right_zones image point tree stored is at bad
-  sound Shared at not_end bad = not_shared image point tree stored is at bad
-  sound Conflict at not_end bad = no_conflict at bad
-  sound NoParent at not_end bad = none_marked image point tree stored is bad.place bad.brings.block bad.brings.marked
-  sound BadTree at not_end bad = right_tree image point tree stored is at bad
-  sound TooFull at not_end bad = not_full at bad
+  sound Shared at not_end bad = not_shared image point tree stored is at bad.1
+  sound Conflict at not_end bad = no_conflict at bad.1
+  sound NoParent at not_end bad = none_marked image point tree stored is bad.1.place bad.1.brings.block bad.1.brings.marked
+  sound BadTree at not_end bad = right_tree image point tree stored is at bad.1
+  sound TooFull at not_end bad = not_full at bad.1
 
   -- no block and no tail is of a later version
   pub clean : IsCleanAt image point
   clean = record {
-    nodes = λ at inside. let unlogged = is.laid.unlogged at inside in omega arith;
+    nodes = λ at inside. subst (λ v. v % 2 ^ 32 ≤ point.head.version) (sym (is.laid.unlogged at inside)) (omega arith);
     tails = is.laid.tails;
   }

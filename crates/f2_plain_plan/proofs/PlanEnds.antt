@@ -246,7 +246,7 @@ module _ (next : Next) (tree : Rows) (old places : PlaceMap) (data_blocks inode_
         only = draft.only;
         table = λ block low. let w = tables.tables block low in record { bytes = w.bytes; written = table_written (nat_address extent block next.second) w.bytes w.written; entries = w.entries };
         summary = (pack.summary, pack.empty, last_written summary_planned (0, omega arith, refl));
-        head = record { pack = is_head.pack; version = is_head.version; bitmap = is_head.bitmap };
+        head = record { pack = is_head.pack; version = is_head.version; low = is_head.low; newer = is_head.newer; bitmap = is_head.bitmap };
         head_written = last_written head_planned (1, omega arith, refl);
         within = all_within;
         once = all_differ;

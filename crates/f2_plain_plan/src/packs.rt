@@ -1,5 +1,5 @@
 //! The pack of a checkpoint.
-ghost use Rattle.std.specs.Prelude.{◌≡◌, ◌<◌, ◌≤◌, ℕ, OnOk, IsTrue};
+ghost use Rattle.std.specs.Prelude.{◌≡◌, ◌^◌, ◌<◌, ◌≤◌, ℕ, OnOk, IsTrue};
 ghost use Rattle.f2_format.specs.Geometry.{is_in_node};
 ghost use Rattle.f2_format.specs.Journal.{journal_count};
 ghost use Rattle.f2_format.specs.Nat.{is_second_copy};
@@ -48,9 +48,13 @@ fn bitmap(nat: u32, second: bool) -> Bitmap
     bitmap
 }
 
+/// The flags of a head in the newer format.
+const NEWER_FORMAT: u32 = 1;
+
 /// The head of the pack, which is as well its tail.
 pub(crate) fn head(next: &Next, log_start: u32) -> Block
     requires version { 1 ≤ next.now.version }
+    requires low { next.now.version < 2 ^ 32 }
     requires log_start { IsTrue (is_in_node next.now.geometry log_start) }
     ensures { IsHead next.now result }
 {
@@ -58,7 +62,7 @@ pub(crate) fn head(next: &Next, log_start: u32) -> Block
     let head = Head {
         version: next.version,
         log_start,
-        flags: 0,
+        flags: NEWER_FORMAT,
         bitmap: bitmap(nat, next.second),
     };
     let mut block = [0; 4096];

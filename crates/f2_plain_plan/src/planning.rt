@@ -1,5 +1,5 @@
 //! Planning a checkpoint.
-ghost use Rattle.std.specs.Prelude.{◌≡◌, ◌+◌, ◌≤◌, IfOk, length};
+ghost use Rattle.std.specs.Prelude.{◌≡◌, ◌+◌, ◌^◌, ◌<◌, ◌≤◌, IfOk, length};
 ghost use Rattle.f2_format.specs.Geometry.{node_third, data_third};
 ghost use Rattle.f2_laid.specs.Laid.{IsKept, IsStorable};
 ghost use Rattle.f2_laid.specs.Planned.{IsPlanOf};
@@ -24,6 +24,7 @@ pub fn plan(alloc: Global, tree: &Tree, old: &Places, next: Next) -> Result<Plan
     requires storable { IsStorable next.geometry tree.now }
     requires kept { IsKept next.geometry old.now }
     requires version { 1 ≤ next.version }
+    requires low { next.version < 2 ^ 32 }
 
     ensures plan { IfOk result (λ plan. IsPlanOf tree.now old.now plan.stored plan.blocks.items plan.tail) }
     ensures geometry { IfOk result (λ plan. plan.stored.geometry ≡ next.geometry) }

@@ -168,6 +168,8 @@ module _ (image other : Image) (tree new : Rows) (stored next : Stored) (plan : 
         extent = laid.extent;
         side = laid.side;
         version = laid.version;
+        low = laid.low;
+        newer = laid.newer;
         copies = laid.copies;
         journal = laid.journal;
         table = entry;

@@ -194,6 +194,8 @@ module _ (image : Image) (tree : Rows) (stored : Stored) (old : PlaceMap) (plan 
       extent = refl;
       side = refl;
       version = is.head.version;
+      low = is.head.low;
+      newer = is.head.newer;
       copies = is.head.bitmap;
       journal = ap journal_count (there _ is.summary.0 is.summary.2) ∙ is.summary.1;
       table = entry;

@@ -32,7 +32,7 @@ pub fn save<D: Disk>(
     requires blocks { old.now.geometry.blocks ≤ (D.meter disk.old).blocks }
     requires storable { IsStorable old.now.geometry tree.now }
     requires kept { IsKept old.now.geometry old.now.places }
-    requires version { old.now.version + 1 < 2 ^ 64 }
+    requires version { old.now.version + 1 < 2 ^ 32 }
 
     ensures next { IfOk result (λ next. IsNext old.now next) }
     ensures version { IfOk result (λ next. next.version ≡ old.now.version + 1) }
@@ -57,7 +57,7 @@ pub fn save<D: Disk>(
 fn plan_next(alloc: Global, old: &Stored, tree: &Tree) -> Result<Plan, AllocError>
     requires storable { IsStorable old.now.geometry tree.now }
     requires kept { IsKept old.now.geometry old.now.places }
-    requires version { old.now.version + 1 < 2 ^ 64 }
+    requires version { old.now.version + 1 < 2 ^ 32 }
 
     ensures plan { IfOk result (λ plan. IsPlanOf tree.now old.now.places plan.stored plan.blocks.items plan.tail) }
     ensures next { IfOk result (λ plan. IsNext old.now plan.stored) }
