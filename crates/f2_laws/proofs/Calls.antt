@@ -7,7 +7,7 @@ use Rattle.std.proofs.lemmas.Bool.{ltb-false, eqb-false, ne_eqb, eq-eqb}
 use Rattle.f2_model.specs.Content.{PageMap, put_pieces, raised_size, cut_pages}
 use Rattle.f2_model.specs.Names.{is_good_name, is_good_path}
 use Rattle.f2_model.specs.Tree.{Rows, ROOT, MOST_DEPTH, IsGoodTree, IsAtDepth, HasGoodPages, most_depth, is_directory, is_in, walk, parent_path, last_name}
-use Rattle.f2_model.specs.Call.{refusal, space_refusal, answer, or_refused, effect, on_row, new_row, to_directory, walk_parent, row_passes, goes_below, puts_too_deep, is_root_path, refusal_of}
+use Rattle.f2_model.specs.Call.{refusal, space_wanted, answer, or_refused, effect, on_row, new_row, to_directory, walk_parent, row_passes, goes_below, puts_too_deep, is_root_path, refusal_of}
 use Rattle.f2_model.specs.declared.bounds.Limits.{Limits}
 use Rattle.f2_model.specs.Step.{adds_row}
 use Rattle.f2_laws.specs.Goodness.{CallsKeepTreesGood}
@@ -272,4 +272,4 @@ outcome_good limits tree request ino good new None None e told = effect_good lim
 
 pub calls_keep_good : CallsKeepTreesGood
 calls_keep_good limits tree request ino good new =
-    outcome_good limits tree request ino good new (refusal limits tree request) (space_refusal limits (effect tree request ino)) refl (answer tree request)
+    outcome_good limits tree request ino good new (refusal limits tree request) (space_wanted limits (effect tree request ino) request) refl (answer tree request)

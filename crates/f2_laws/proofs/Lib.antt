@@ -16,3 +16,16 @@ pub mod Moves
 pub mod NewRows
 pub mod Outcomes
 pub mod Orders
+pub mod Listed
+pub mod Seats
+pub mod Flying
+pub mod Cases
+pub mod Dirtied
+pub mod EachFsync
+pub mod Telling
+pub mod Runs
+pub mod Acknowledged
+pub mod Checkpointed
+pub mod Remounted
+pub mod Clean
+pub mod Settled

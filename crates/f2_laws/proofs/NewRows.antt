@@ -21,7 +21,8 @@ use Rattle.f2_format.specs.Packing.{blocks_of_names}
 use Rattle.f2_model.specs.Rising.{rising}
 use Rattle.f2_model.specs.Tree.{Rows, ROOT, IsGoodTree, names_of, is_in, names_under, names_in, is_directory, walk, parent_path, last_name}
 use Rattle.f2_model.specs.Count.{dentry_blocks, nodes_of_row, data_of_row, nodes_of_tree, data_of_tree, page_numbers, data_of_kind}
-use Rattle.f2_model.specs.Call.{space_refusal, first_refusal, on_row, new_row, to_directory}
+use Rattle.f2_model.specs.Lists.{first_some}
+use Rattle.f2_model.specs.Call.{space_refusal, on_row, new_row, to_directory}
 use Rattle.f2_model.specs.declared.bounds.Limits.{Limits}
 use Rattle.f2_model.specs.declared.rows.Row.{Row}
 use Rattle.f2_model.specs.declared.rows.Kind.{Kind}
@@ -202,7 +203,7 @@ module _ (most : ℕ) (tree : Rows) (good : IsGoodTree most tree) (kind : Kind) 
 
 -- want of space, told from the two counts
 abbrev wants : Limits → ℕ → ℕ → Option Reply
-wants limits nodes blocks = first_refusal (
+wants limits nodes blocks = first_some (
     then_some (nat_lt limits.nodes nodes) (NoSpace Node nodes limits.nodes)
     ∷ then_some (nat_lt limits.data_blocks blocks) (NoSpace Data blocks limits.data_blocks)
     ∷ [])

@@ -3,7 +3,8 @@ use Rattle.std.proofs.Common.{◌≡◌, Bool, true, false, not, ◌&&◌, ◌||
 use Rattle.std.specs.Prelude.{Option, Some, None, Result, Ok, Err, if◌then◌else◌}
 use Rattle.std.specs.Bool.{then_some}
 use Rattle.f2_model.specs.Tree.{Rows, is_directory}
-use Rattle.f2_model.specs.Call.{refusal, first_refusal, refusal_of, to_directory, has_bad_name, walk_refusal, names_directory, name_is_there, has_entries, is_too_big}
+use Rattle.f2_model.specs.Lists.{first_some}
+use Rattle.f2_model.specs.Call.{refusal, refusal_of, to_directory, has_bad_name, walk_refusal, names_directory, name_is_there, has_entries, is_too_big}
 use Rattle.f2_model.specs.declared.bounds.Limits.{Limits}
 use Rattle.f2_model.specs.declared.rows.Row.{Row}
 use Rattle.f2_model.specs.declared.rows.Kind.{Kind}
@@ -22,7 +23,7 @@ pub record Passed (limits : Limits) (tree : Rows) (request : Request) : Type 0 w
   pub empty : has_entries tree request ≡ false
   pub fits : is_too_big limits tree request ≡ false
 
-pub none_first : (o : Option Reply) (rest : List (Option Reply)) → first_refusal (o ∷ rest) ≡ None → (o ≡ None) × (first_refusal rest ≡ None)
+pub none_first : (o : Option Reply) (rest : List (Option Reply)) → first_some (o ∷ rest) ≡ None → (o ≡ None) × (first_some rest ≡ None)
 none_first None rest h = (refl, h)
 none_first (Some refused) rest h = absurd (some_none h)
 

@@ -7,11 +7,18 @@ use Rattle.std.specs.FinMap as map
 use Rattle.f2_model.specs.Tree.{Rows, walk}
 use Rattle.f2_model.specs.Call.{refusal, answer}
 use Rattle.f2_model.specs.declared.bounds.Limits.{Limits}
-use Rattle.f2_model.specs.State.{State, Part, InPages, InNodes, Marked, Stage, Flight, InFsync, InCheck, IsFreeIno}
+use Rattle.f2_model.specs.State.{State, Part, InPages, InNodes, Marked, Progress, Flight, InFsync, InCheck, IsFreeIno, base_up_to, pending_with, number_of}
 use Rattle.f2_model.specs.Fallback.{fallback}
 use Rattle.f2_model.specs.Step
-use Rattle.f2_model.specs.Step.{Event, Begin, Go, Tick, Mount, Unmount, Crash, Faults, Turn, Answer, Writes, Flushes, StepBegin, Serves, BeginsFsync, BeginsCheck, TakesEffect, ReadFails, StepFsync, StepCheck, StepFlight, StepMount, FindsMarks, FindsPending, adds_row}
+use Rattle.f2_model.specs.Step.{Faults, Turn, Writes, Flushes, StepBegin, Serves, BeginsFsync, BeginsCheck, TakesEffect, ReadFails, StepPart, StepFsync, StepCheck, StepFlight, StepMount, FindsMarks, FindsPending, adds_row}
+use Rattle.f2_model.specs.declared.events.Event.{Event}
+use Rattle.f2_model.specs.declared.events.Event.TheVariants.{Begin, Go, Tick, Mount, Unmount, Upgrade, Crash}
+use Rattle.f2_model.specs.declared.events.Answer.{Answer}
+use Rattle.f2_model.specs.declared.events.Answer.TheVariants.{Stepped, NotMounted}
+use Rattle.f2_model.specs.declared.events.MountRefusal.TheVariants.{ReadFailed, WriteFailed, BadImage, NoMemory}
 use Rattle.f2_model.specs.declared.rows.Row.{Row}
+use Rattle.f2_model.specs.declared.modes.Format.{Format}
+use Rattle.f2_model.specs.declared.modes.Format.TheVariants.{Two}
 use Rattle.f2_model.specs.declared.requests.Request.{Request}
 use Rattle.f2_model.specs.declared.requests.Request.TheVariants.{Create, Mkdir, Write, Truncate, Unlink, Rmdir, Rename, Read, List as ListNames, Fsync, Sync}
 use Rattle.f2_model.specs.declared.replies.Reply.{Reply}
@@ -67,19 +74,19 @@ or_fails p f g one other alike a (inr b) = absurd (g other alike.other_faultless
 
 module _ (limits : Limits) (faults later : Faults) (state : State) where
   gives_ino : (seat : ℕ) (request : Request) →
-      Decides (λ turn. (ino : ℕ) × IsFreeIno limits state ino × (turn ≡ Step.did state seat request (answer state.live request) (ino ∷ []) (Step.called state request ino)))
-      (λ turn. (ino : ℕ) × IsFreeIno limits state ino × (turn ≡ Step.did state seat request (answer state.live request) (ino ∷ []) (Step.called state request ino)))
+      Decides (λ turn. (ino : ℕ) × IsFreeIno limits state ino × (turn ≡ Step.told_at_once state seat request (answer state.live request) (ino ∷ []) (Step.called state request ino)))
+      (λ turn. (ino : ℕ) × IsFreeIno limits state ino × (turn ≡ Step.told_at_once state seat request (answer state.live request) (ino ∷ []) (Step.called state request ino)))
   gives_ino seat request one other alike p q =
       let chosen : (p.0 ∷ []) ≡ (q.0 ∷ []) = sym (ap (λ (turn : Turn). turn.choices) p.2) ∙ alike.chose.choices ∙ ap (λ (turn : Turn). turn.choices) q.2 in
       let same : p.0 ≡ q.0 = cc in
-      p.2 ∙ ap (λ ino. Step.did state seat request (answer state.live request) (ino ∷ []) (Step.called state request ino)) same ∙ sym q.2
+      p.2 ∙ ap (λ ino. Step.told_at_once state seat request (answer state.live request) (ino ∷ []) (Step.called state request ino)) same ∙ sym q.2
 
   takes_effect : (seat : ℕ) (request : Request) → Decides (TakesEffect limits state seat request) (TakesEffect limits state seat request)
   takes_effect seat request = by_bool (adds_row request) (gives_ino seat request) (outright _)
 
   serves_other : (seat : ℕ) (request : Request) (want : Option Reply) →
-      Decides (λ turn. MatchOption want (TakesEffect limits state seat request turn ⊎ ReadFails faults state seat request turn) (λ refused. turn ≡ Step.did state seat request refused [] state))
-      (λ turn. MatchOption want (TakesEffect limits state seat request turn ⊎ ReadFails later state seat request turn) (λ refused. turn ≡ Step.did state seat request refused [] state))
+      Decides (λ turn. MatchOption want (TakesEffect limits state seat request turn ⊎ ReadFails faults state seat request turn) (λ refused. turn ≡ Step.told_at_once state seat request refused [] state))
+      (λ turn. MatchOption want (TakesEffect limits state seat request turn ⊎ ReadFails later state seat request turn) (λ refused. turn ≡ Step.told_at_once state seat request refused [] state))
   serves_other seat request want =
       by_option want
       (or_fails (takes_effect seat request)
@@ -122,23 +129,31 @@ module _ (limits : Limits) (faults later : Faults) (state : State) where
   no_row : Decides (λ turn. ⊥) (λ turn. ⊥)
   no_row one other alike p q = absurd p
 
-  fsync : (seat ino : ℕ) (stage : Stage) (part : Part) → Decides (StepFsync faults state seat ino stage part) (StepFsync later state seat ino stage part)
-  fsync seat ino stage InPages =
+  part : (seat ino : ℕ) (progress : Progress) (at : Part) → Decides (StepPart faults state seat ino progress at) (StepPart later state seat ino progress at)
+  part seat ino progress InPages =
       by_option (Step.least_of state.dirty_pages ino)
       (flushes faults later state seat Step.step_failed _ refl)
       (λ page. writes faults later seat Step.step_failed _ refl)
-  fsync seat ino stage InNodes =
+  part seat ino progress InNodes =
       by_option (Step.least_of state.dirty_nodes ino)
-      (by_option (map.get state.live ino) no_row (λ row. writes faults later seat Step.step_failed _ refl))
-      (λ offset. writes faults later seat Step.step_failed _ refl)
-  fsync seat ino stage Marked = flushes faults later state seat Step.step_failed _ refl
+      (by_option (map.get state.live ino) no_row (λ row. outright _))
+      (λ offset. outright _)
+  part seat ino progress Marked =
+      by_option (Step.gap_below state progress.position)
+      (flushes faults later state seat Step.step_failed _ refl)
+      (λ position. outright _)
+
+  fsync : (seat ino : ℕ) (progress : Progress) → Decides (StepFsync faults state seat ino progress) (StepFsync later state seat ino progress)
+  fsync seat ino progress =
+      by_option progress.slot (part seat ino progress progress.part)
+      (λ slot. writes faults later seat Step.step_failed _ refl)
 
   -- a checkpoint that wrote a block, and one that wrote its tail
   abbrev block : Turn
-  block = Step.unchanged state (Step.Stepped step.Block)
+  block = Step.unchanged state (Stepped step.Block)
 
   abbrev tail : ℕ → Turn
-  tail seat = Step.turned (Step.Stepped step.Tail) (entry.CpTail seat ∷ []) [] (record state { pending = Some state.live })
+  tail seat = Step.turn_with (Stepped step.Tail) (entry.CpTail seat ∷ []) [] (record state { pending = Some state.live })
 
   wrote_block : (counts : Faults) (seat : ℕ) (turn : Turn) → IsFaultless turn → Step.WritesBlock counts state seat turn → turn ≡ block
   wrote_block counts seat turn faultless (inl (inl p)) = p
@@ -168,7 +183,7 @@ module _ (limits : Limits) (faults later : Faults) (state : State) where
   check seat plan = by_option state.pending (before_tail seat) (λ tree. flushes faults later state seat Step.step_failed _ refl)
 
   flight : (seat : ℕ) (one : Flight) → Decides (StepFlight faults state seat one) (StepFlight later state seat one)
-  flight seat (InFsync ino stage) = fsync seat ino stage stage.part
+  flight seat (InFsync ino progress) = fsync seat ino progress
   flight seat (InCheck plan) = check seat plan
 
   go : (seat : ℕ) → Decides (Step.StepGo faults state seat) (Step.StepGo later state seat)
@@ -195,8 +210,8 @@ module _ (limits : Limits) (faults later : Faults) (state : State) where
   Finds turn = FindsMarks state turn ⊎ FindsPending state turn
 
   finds : (counts : Faults) (turn : Turn) → IsFaultless turn →
-      FindsMarks state turn ⊎ FindsPending state turn ⊎ Step.MountFails counts state Step.ReadFailed kind.Read turn ⊎ Step.MountFails counts state Step.WriteFailed kind.Flush turn
-      ⊎ (turn ≡ Step.unchanged state (Step.NotMounted Step.BadImage)) ⊎ (turn ≡ Step.unchanged state (Step.NotMounted Step.NoMemory)) →
+      FindsMarks state turn ⊎ FindsPending state turn ⊎ Step.MountFails counts state ReadFailed kind.Read turn ⊎ Step.MountFails counts state WriteFailed kind.Flush turn
+      ⊎ (turn ≡ Step.unchanged state (NotMounted BadImage)) ⊎ (turn ≡ Step.unchanged state (NotMounted NoMemory)) →
       Finds turn
   finds counts turn faultless (inl h) = inl h
   finds counts turn faultless (inr (inl h)) = inr h
@@ -206,7 +221,7 @@ module _ (limits : Limits) (faults later : Faults) (state : State) where
   finds counts turn faultless (inr (inr (inr (inr (inr h))))) = absurd (fails _ refl h faultless)
 
   abbrev found_marks : ℕ → Turn
-  found_marks k = Step.found state state.base (take k state.marks) 0
+  found_marks place = Step.found state (base_up_to state place) 0
 
   same_marks : Decides (FindsMarks state) (FindsMarks state)
   same_marks one other alike p q =
@@ -220,16 +235,16 @@ module _ (limits : Limits) (faults later : Faults) (state : State) where
   same_pending = by_option state.pending no_row (λ tree. outright _)
 
   -- the choice tells marks from the pending tree
-  marks_chosen : (turn : Turn) → FindsMarks state turn → turn.choices ≡ (0 ∷ [])
+  marks_chosen : (turn : Turn) → FindsMarks state turn → turn.choices ≡ (0 ∷ number_of state.format ∷ [])
   marks_chosen turn h = ap (λ (t : Turn). t.choices) h.3
 
-  pending_chosen : (pending : Option Rows) (turn : Turn) → MatchOption pending ⊥ (λ tree. turn ≡ Step.found state tree [] 1) → turn.choices ≡ (1 ∷ [])
+  pending_chosen : (pending : Option Rows) (turn : Turn) → MatchOption pending ⊥ (λ tree. turn ≡ Step.found state (pending_with state tree) 1) → turn.choices ≡ (1 ∷ number_of state.next_format ∷ [])
   pending_chosen None turn h = absurd h
   pending_chosen (Some tree) turn h = ap (λ (t : Turn). t.choices) h
 
-  other_choice : (one other : Turn) → one.choices ≡ other.choices → one.choices ≡ (0 ∷ []) → other.choices ≡ (1 ∷ []) → ⊥
+  other_choice : (one other : Turn) → one.choices ≡ other.choices → one.choices ≡ (0 ∷ number_of state.format ∷ []) → other.choices ≡ (1 ∷ number_of state.next_format ∷ []) → ⊥
   other_choice one other e p q =
-      let no : ◌≡◌ {A = List ℕ} (0 ∷ []) (1 ∷ []) = sym p ∙ e ∙ q in cc
+      let no : ◌≡◌ {A = List ℕ} (0 ∷ number_of state.format ∷ []) (1 ∷ number_of state.next_format ∷ []) = sym p ∙ e ∙ q in cc
 
   same_finds : (one other : Turn) → Alike one other → Finds one → Finds other → one ≡ other
   same_finds one other alike (inl p) (inl q) = same_marks one other alike p q
@@ -242,8 +257,8 @@ module _ (limits : Limits) (faults later : Faults) (state : State) where
       by_bool (not (Step.is_shut state.mode)) (outright _)
       (λ one other alike p q. same_finds one other alike (finds faults one alike.one_faultless p) (finds later other alike.other_faultless q))
 
-  unmount : Decides (Step.StepUnmount state) (Step.StepUnmount state)
-  unmount =
+  close : (format : Format) → Decides (Step.StepClose state format) (Step.StepClose state format)
+  close format =
       by_bool (not (Step.is_up state.mode)) (outright _)
       (by_option (Step.least_in_flight state) (outright _) (λ by. outright _))
 
@@ -252,11 +267,12 @@ module _ (limits : Limits) (faults later : Faults) (state : State) where
   no_memory turn faultless e = fails (Step.unchanged state (Step.replied reply.Memory)) refl e faultless
 
   same_turn : (event : Event) → Decides (Step.Step limits faults state event) (Step.Step limits later state event)
-  same_turn (Begin seat request) = or_fails (begin seat request) no_memory no_memory
+  same_turn (Begin seat request) = (λ one other alike p q. or_fails (begin seat request) no_memory no_memory one other alike p.1 q.1)
   same_turn (Go seat) = go seat
   same_turn Tick = ticks
   same_turn Mount = mount
-  same_turn Unmount = or_fails unmount no_memory no_memory
+  same_turn Unmount = or_fails (close state.format) no_memory no_memory
+  same_turn Upgrade = or_fails (close Two) no_memory no_memory
   same_turn Crash = outright _
 
 pub choices_decide_turns : ChoicesDecide

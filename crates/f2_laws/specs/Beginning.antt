@@ -4,7 +4,8 @@ use Rattle.std.specs.FinMap as map
 use Rattle.f2_model.specs.Tree.{IsGoodTree}
 use Rattle.f2_model.specs.Call.{outcome}
 use Rattle.f2_model.specs.State.{State}
-use Rattle.f2_model.specs.Step.{Begin, Faults, Turn, Step, MOST_ENTRIES, is_up, barring_seat, freezing, replied}
+use Rattle.f2_model.specs.Step.{Faults, Turn, Step, MOST_ENTRIES, is_up, barring_seat, freezing, replied}
+use Rattle.f2_model.specs.declared.events.Event.TheVariants.{Begin}
 use Rattle.f2_model.specs.declared.bounds.Limits.{Limits}
 use Rattle.f2_model.specs.declared.requests.Request.{Request}
 use Rattle.f2_model.specs.declared.requests.Request.TheVariants.{Fsync, Sync}

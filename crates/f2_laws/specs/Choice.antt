@@ -2,7 +2,10 @@
 use Rattle.std.specs.Prelude.{◌≡◌, ℕ, Bool, true, false, Option, Some, None}
 use Rattle.f2_model.specs.declared.bounds.Limits.{Limits}
 use Rattle.f2_model.specs.State.{State}
-use Rattle.f2_model.specs.Step.{Event, Faults, Turn, Answer, Began, Stepped, Ticked, Found, NotMounted, Step}
+use Rattle.f2_model.specs.Step.{Faults, Turn, Step}
+use Rattle.f2_model.specs.declared.events.Event.{Event}
+use Rattle.f2_model.specs.declared.events.Answer.{Answer}
+use Rattle.f2_model.specs.declared.events.Answer.TheVariants.{Began, Stepped, Ticked, Found, NotMounted}
 use Rattle.f2_model.specs.declared.replies.Begun.TheVariants.{Replied}
 use Rattle.f2_model.specs.declared.replies.Step.TheVariants as step
 use Rattle.f2_model.specs.declared.replies.Tick.TheVariants as tick
@@ -32,7 +35,7 @@ pub record ChoseAlike (one other : Turn) : Type 0 where
   pub choices : one.choices ≡ other.choices
   pub told : choice_told one.answer ≡ choice_told other.answer
 
--- what an event comes to without a failure is decided by the state and the choices: a new row's ino, a checkpoint's tail, and what a mount finds
+-- what an event comes to without a failure is decided by the state and the choices: a new row's ino, a checkpoint's format and its tail, and what a mount finds
 abbrev pub ChoicesDecide : Type 0
 ChoicesDecide =
     (limits : Limits) (faults later : Faults) (state : State) (event : Event) (one other : Turn) →

@@ -8,3 +8,8 @@ pub mod Room
 pub mod Goodness
 pub mod Space
 pub mod Beginning
+pub mod Flights
+pub mod Acknowledging
+pub mod Checkpointing
+pub mod Remounting
+pub mod Freezing

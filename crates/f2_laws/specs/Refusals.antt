@@ -1,7 +1,7 @@
 -- What a refused call, and a call that changes nothing, leave of a tree.
 use Rattle.std.specs.Prelude.{◌≡◌, ℕ, List, Some, None}
 use Rattle.f2_model.specs.Tree.{Rows}
-use Rattle.f2_model.specs.Call.{refusal, effect, space_refusal, outcome}
+use Rattle.f2_model.specs.Call.{refusal, effect, space_wanted, outcome}
 use Rattle.f2_model.specs.declared.bounds.Limits.{Limits}
 use Rattle.f2_model.specs.declared.requests.Request.{Request}
 use Rattle.f2_model.specs.declared.requests.Request.TheVariants.{Read, List as ListNames, Fsync, Sync}
@@ -19,7 +19,7 @@ abbrev pub WantOfSpaceLeavesTheTree : Type 0
 WantOfSpaceLeavesTheTree =
     (limits : Limits) (tree : Rows) (request : Request) (ino : ℕ) (refused : Reply) →
     refusal limits tree request ≡ None →
-    space_refusal limits (effect tree request ino) ≡ Some refused →
+    space_wanted limits (effect tree request ino) request ≡ Some refused →
     outcome limits tree request ino ≡ (refused, tree)
 
 -- whatever is answered, reads, lists, fsyncs and syncs leave the tree

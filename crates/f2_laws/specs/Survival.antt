@@ -1,16 +1,16 @@
 -- What a crash may leave of a state, and what events do to it.
-use Rattle.std.specs.Prelude.{◌≡◌, ◌≤◌, ◌⊎◌, ◌↔◌, Bool, true, false, IsTrue, List, [], ◌++◌, length}
+use Rattle.std.specs.Prelude.{◌≡◌, ◌+◌, ◌≤◌, ◌⊎◌, ◌↔◌, Bool, true, false, IsTrue, List, [], ◌++◌, length}
 use Rattle.std.specs.List.{list_any}
-use Rattle.f2_model.specs.Tree.{Rows}
 use Rattle.f2_model.specs.declared.bounds.Limits.{Limits}
-use Rattle.f2_model.specs.State.{State, Mark, MayRemain, rolled}
-use Rattle.f2_model.specs.Step.{Event, Faults, Turn, Step, crashed}
+use Rattle.f2_model.specs.State.{State, Mark, Meaning, MayRemain, rolled}
+use Rattle.f2_model.specs.Step.{Faults, Turn, Step, crashed}
+use Rattle.f2_model.specs.declared.events.Event.{Event}
 use Rattle.f2_model.specs.declared.histories.Entry.{Entry}
 use Rattle.f2_model.specs.declared.histories.Entry.TheVariants.{CpDone, Mounted}
 
 -- a crash changes nothing of what a crash may leave, so any number of crashes leave what one may
 abbrev pub CrashesLeaveTheSame : Type 0
-CrashesLeaveTheSame = (state : State) (base : Rows) (marks : List Mark) → MayRemain (crashed state).after base marks ↔ MayRemain state base marks
+CrashesLeaveTheSame = (state : State) (meaning : Meaning) → MayRemain (crashed state).after meaning ↔ MayRemain state meaning
 
 -- an entry that tells the end of a checkpoint, and one that tells what a mount found
 abbrev pub is_checkpoint_done : Entry → Bool
@@ -21,21 +21,29 @@ abbrev pub is_mounted : Entry → Bool
 is_mounted (Mounted rows) = true
 is_mounted _ = false
 
--- nothing durable is lost from a state to a later one: the base stays, marks only join, and acknowledged ones stay so
+-- nothing durable is lost from a state to a later one: the base stays with its format and version, marks only join, and acknowledged ones stay so
 pub record KeepsDurable (before after : State) : Type 0 where
   pub base : after.base ≡ before.base
+  pub format : after.format ≡ before.format
+  pub version : after.version ≡ before.version
   pub marks : (more : List Mark) × (after.marks ≡ before.marks ++ more)
   pub acknowledged : before.acknowledged ≤ after.acknowledged
 
--- a checkpoint is done: the tree that calls see is the base, and no mark is left
+-- a checkpoint is done: the tree that calls see is the base, in the checkpoint's format and the next version, and no mark is left
 pub record IsCheckpointed (before after : State) : Type 0 where
   pub base : after.base ≡ before.live
+  pub format : after.format ≡ before.next_format
+  pub version : after.version ≡ before.version + 1
   pub live : after.live ≡ before.live
   pub marks : after.marks ≡ []
 
+-- what a state shows of its image: its base with the marks since, the image's format, and its checkpoint's version
+abbrev pub meaning_of : State → Meaning
+meaning_of state = record { base = state.base; marks = state.marks; format = state.format; version = state.version }
+
 -- a mount found what a crash may leave, and has rolled its marks over its base; all of them count as acknowledged
 pub record IsFound (before after : State) : Type 0 where
-  pub remained : MayRemain before after.base after.marks
+  pub remained : MayRemain before (meaning_of after)
   pub live : after.live ≡ rolled after.base after.marks
   pub acknowledged : after.acknowledged ≡ length after.marks
 

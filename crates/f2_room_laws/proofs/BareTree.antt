@@ -12,7 +12,7 @@ use Rattle.std.specs.FinSet as set
 use Rattle.std.proofs.lemmas.List.Sums.{sum_by-cons}
 use Rattle.f2_format.specs.Offsets.{node_count}
 use Rattle.f2_format.specs.Packing.{blocks_of_names}
-use Rattle.f2_model.specs.Tree.{Rows, ROOT, IsGoodTree, HasGoodPages, names_in}
+use Rattle.f2_model.specs.Tree.{Rows, ROOT, root_row, root_alone, IsGoodTree, HasGoodPages, names_in}
 use Rattle.f2_model.specs.Count.{dentry_blocks, nodes_of_row, data_of_row, nodes_of_tree, data_of_tree}
 use Rattle.f2_model.specs.Rising.{rising}
 use Rattle.f2_model.proofs.RisingLemmas.{contains-rising}
@@ -21,20 +21,20 @@ use Rattle.f2_laws.proofs.Maps.{get_put, get_put-other}
 use Rattle.f2_laws.proofs.Walks.{some_same, some_none}
 use Rattle.f2_laws.proofs.Places.{same_or_other}
 use Rattle.f2_held.proofs.FirstPages.{used-is}
-use Rattle.f2_room_laws.specs.SoundTrees.{IsNumber, root_row, bare_tree, BareTreeIsSound}
+use Rattle.f2_room_laws.specs.SoundTrees.{IsNumber, BareTreeIsSound}
 
 abbrev no_rows : Rows
 no_rows = map.empty
 
 -- the root's row is there, and no other
-only_root : (ino : ℕ) (row : Row) → map.get bare_tree ino ≡ Some row → (ino ≡ ROOT) × (row ≡ root_row)
+only_root : (ino : ℕ) (row : Row) → map.get root_alone ino ≡ Some row → (ino ≡ ROOT) × (row ≡ root_row)
 only_root ino row there = by_ino (same_or_other ino ROOT)
   where
     by_ino : (ino ≡ ROOT) ⊎ (ino ≢ ROOT) → (ino ≡ ROOT) × (row ≡ root_row)
-    by_ino (inl same) = (same, some_same (sym there ∙ ap (λ i. map.get bare_tree i) same ∙ get_put no_rows ROOT root_row))
+    by_ino (inl same) = (same, some_same (sym there ∙ ap (λ i. map.get root_alone i) same ∙ get_put no_rows ROOT root_row))
     by_ino (inr other) = absurd (some_none (sym there ∙ get_put-other no_rows ROOT root_row ino other ∙ map.get-empty nat_cmp ino))
 
-root_there : map.get bare_tree ROOT ≡ Some root_row
+root_there : map.get root_alone ROOT ≡ Some root_row
 root_there = get_put no_rows ROOT root_row
 
 root_pages : (most : ℕ) → HasGoodPages most root_row
@@ -48,11 +48,11 @@ root_pages most =
       zeros = λ page at bytes h past. absurd (none page bytes h);
     }
 
-bare_good : (most : ℕ) → IsGoodTree most bare_tree
+bare_good : (most : ℕ) → IsGoodTree most root_alone
 bare_good most = record {
   root = (root_row, root_there, record { ino = refl; kind = refl; parent = refl; name = refl });
   keyed = λ ino row there. (let only = only_root ino row there in ap (λ (r : Row). r.ino) only.1 ∙ sym only.0);
-  parents = λ ino row there. (root_row, ap (λ (r : Row). map.get bare_tree r.parent) (only_root ino row there).1 ∙ root_there, refl);
+  parents = λ ino row there. (root_row, ap (λ (r : Row). map.get root_alone r.parent) (only_root ino row there).1 ∙ root_there, refl);
   names = λ ino row there not_root. absurd (not_root (only_root ino row there).0);
   apart = λ i j a b p q not_root root_not parent name. absurd (not_root (only_root i a p).0);
   reached = λ ino row there. (0, omega arith, (only_root ino row there).0);
@@ -64,7 +64,7 @@ no_entries [] e = refl
 no_entries (x ∷ es) e = absurd (omega arith)
 
 -- its values are the root's row alone
-bare_values : map.values bare_tree ≡ root_row ∷ []
+bare_values : map.values root_alone ≡ root_row ∷ []
 bare_values =
     let none : map.entries no_rows ≡ [] = no_entries (map.entries no_rows) (sym (map.len-entries no_rows) ∙ map.len-empty nat_cmp Row) in
     ap (map_list (λ (e : ℕ × Row). e.1)) (map.entries-insert nat_cmp_total no_rows ROOT root_row ∙ ap (map.put nat_cmp ROOT root_row) none)
@@ -87,14 +87,14 @@ root_blocks : dentry_blocks (root_row ∷ []) ROOT ≡ 0
 root_blocks =
     ap blocks_of_names (no_name (rising (names_in (root_row ∷ []) ROOT)) (λ q. sym (contains-rising nat_list_cmp_total (names_in (root_row ∷ []) ROOT) q) ∙ set.contains-from_list nat_list_cmp_total [] q))
 
-bare_nodes : nodes_of_tree bare_tree ≡ 1
+bare_nodes : nodes_of_tree root_alone ≡ 1
 bare_nodes =
     ap (λ rows. sum_by (nodes_of_row rows) rows) bare_values
     ∙ sum_by-cons (nodes_of_row (root_row ∷ [])) root_row []
     ∙ ap (λ blocks. node_count (range_with_len 0 blocks) + 0) root_blocks
     ∙ ap (λ n. n + 0) (sym (used-is 0 (omega arith)))
 
-bare_data : data_of_tree bare_tree ≡ 0
+bare_data : data_of_tree root_alone ≡ 0
 bare_data =
     ap (λ rows. sum_by (data_of_row rows) rows) bare_values
     ∙ sum_by-cons (data_of_row (root_row ∷ [])) root_row []

@@ -7,7 +7,8 @@ use Rattle.std.proofs.lemmas.Bool.{ltb-false}
 use Rattle.f2_model.specs.Content.{put_pieces, raised_size, cut_pages}
 use Rattle.f2_model.specs.Tree.{Rows, IsGoodTree, is_directory, walk, parent_path, last_name}
 use Rattle.f2_model.specs.Count.{nodes_of_tree, data_of_tree}
-use Rattle.f2_model.specs.Call.{refusal, effect, on_row, new_row, to_directory, walk_parent, refusal_of, space_refusal, first_refusal}
+use Rattle.f2_model.specs.Call.{refusal, effect, on_row, new_row, to_directory, walk_parent, refusal_of, space_refusal}
+use Rattle.f2_model.specs.Lists.{first_some}
 use Rattle.f2_model.specs.State.{State}
 use Rattle.f2_model.specs.Step.{adds_row, freezing, freezing_walked}
 use Rattle.f2_model.specs.declared.bounds.Limits.{Limits}
@@ -25,8 +26,8 @@ use Rattle.f2_laws.proofs.Passed.{Passed, passed, none_first, walk_ok, directory
 use Rattle.f2_laws.proofs.Places.{same_or_other}
 use Rattle.f2_laws.proofs.Calls.{effect_good}
 use Rattle.f2_room_laws.specs.SoundTrees.{IsNumber, IsSoundTree}
-use Rattle.f2_room_laws.specs.SoundStates.{Flights, IsFrozen}
-use Rattle.f2_room_laws.proofs.Seats.{not_frozen}
+use Rattle.f2_laws.specs.Flights.{Flights, IsFrozen}
+use Rattle.f2_laws.proofs.Seats.{not_frozen}
 
 -- the rows of files in fsync stay, and each row is of the kind that one had at its ino, or is a new one
 pub record Keeps (live after : Rows) (flights : Flights) (adds : Bool) (ino : ℕ) : Type 0 where
@@ -141,14 +142,14 @@ module _ (limits : Limits) (state : State) (good : IsGoodTree limits.size state.
 pub fits_nodes : (limits : Limits) (tree : Rows) → space_refusal limits tree ≡ None → nodes_of_tree tree ≤ limits.nodes
 fits_nodes limits tree h = by_test (nat_lt limits.nodes (nodes_of_tree tree)) refl h
   where
-    by_test : (b : Bool) → nat_lt limits.nodes (nodes_of_tree tree) ≡ b → first_refusal (then_some b (NoSpace Node (nodes_of_tree tree) limits.nodes) ∷ then_some (nat_lt limits.data_blocks (data_of_tree tree)) (NoSpace Data (data_of_tree tree) limits.data_blocks) ∷ []) ≡ None → nodes_of_tree tree ≤ limits.nodes
+    by_test : (b : Bool) → nat_lt limits.nodes (nodes_of_tree tree) ≡ b → first_some (then_some b (NoSpace Node (nodes_of_tree tree) limits.nodes) ∷ then_some (nat_lt limits.data_blocks (data_of_tree tree)) (NoSpace Data (data_of_tree tree) limits.data_blocks) ∷ []) ≡ None → nodes_of_tree tree ≤ limits.nodes
     by_test true e h = absurd (some_none h)
     by_test false e h = ltb-false limits.nodes (nodes_of_tree tree) e
 
 pub fits_data : (limits : Limits) (tree : Rows) → space_refusal limits tree ≡ None → data_of_tree tree ≤ limits.data_blocks
 fits_data limits tree h = by_test (nat_lt limits.data_blocks (data_of_tree tree)) refl (none_first (then_some (nat_lt limits.nodes (nodes_of_tree tree)) (NoSpace Node (nodes_of_tree tree) limits.nodes)) _ h).1
   where
-    by_test : (b : Bool) → nat_lt limits.data_blocks (data_of_tree tree) ≡ b → first_refusal (then_some b (NoSpace Data (data_of_tree tree) limits.data_blocks) ∷ []) ≡ None → data_of_tree tree ≤ limits.data_blocks
+    by_test : (b : Bool) → nat_lt limits.data_blocks (data_of_tree tree) ≡ b → first_some (then_some b (NoSpace Data (data_of_tree tree) limits.data_blocks) ∷ []) ≡ None → data_of_tree tree ≤ limits.data_blocks
     by_test true e h = absurd (some_none h)
     by_test false e h = ltb-false limits.data_blocks (data_of_tree tree) e
 

@@ -1,21 +1,29 @@
 -- Each event leaves a sound state sound.
-use Rattle.std.proofs.Common.{◌≡◌, ◌⊎◌, inl, inr, ℕ, Bool, true, false, not, nat_le, List, [], ◌∷◌, length, take, refl, sym, ap, subst, ◌∙◌, arith, true≢false}
-use Rattle.std.specs.Prelude.{Option, Some, None, Result, Ok, Err, MatchOption, is_some, if◌then◌else◌, ◌+◌, max}
+use Rattle.std.proofs.Common.{◌≡◌, ◌⊎◌, inl, inr, ℕ, Bool, true, false, not, nat_le, List, [], ◌∷◌, length, refl, sym, ap, subst, ◌∙◌, arith, true≢false}
+use Rattle.std.specs.Prelude.{Option, Some, None, Result, Ok, Err, MatchOption, is_some, ◌+◌, max}
 use Rattle.std.specs.Bool.{MatchBool}
 use Rattle.std.specs.FinMap as map
 use Rattle.std.specs.FinSet as set
-use Rattle.f2_model.specs.Tree.{Rows, walk}
+use Rattle.f2_model.specs.Tree.{walk}
 use Rattle.f2_model.specs.Call.{effect, refusal, space_refusal, answer}
 use Rattle.f2_model.specs.declared.bounds.Limits.{Limits}
-use Rattle.f2_model.specs.State.{State, Part, InPages, InNodes, Marked, Stage, Flight, InFsync, InCheck, Pairs, Inos, IsFreeIno, marked_dirty, with_rows, with_row}
+use Rattle.f2_model.specs.State.{State, Part, InPages, InNodes, Marked, DrawnMark, Progress, Flight, InFsync, InCheck, IsFreeIno, fresh_progress, in_nodes, marked_at, base_up_to, pending_with}
 use Rattle.f2_model.specs.Step
 use Rattle.f2_model.specs.Fallback.{fallback}
-use Rattle.f2_model.specs.Step.{Event, Begin, Go, Tick, Mount, Unmount, Crash, Faults, Turn, Answer, Writes, Flushes, StepBegin, Serves, BeginsFsync, BeginsCheck, TakesEffect, ReadFails, StepFsync, StepCheck, StepFlight, StepMount, FindsMarks, FindsPending, called, adds_row, is_shut, is_up, freezing}
+use Rattle.f2_model.specs.declared.events.Event.TheVariants.{Begin, Go, Tick, Mount, Unmount, Upgrade, Crash}
+use Rattle.f2_model.specs.declared.events.Answer.{Answer}
+use Rattle.f2_model.specs.declared.events.Answer.TheVariants.{Stepped, NotMounted}
+use Rattle.f2_model.specs.declared.events.MountRefusal.{MountRefusal}
+use Rattle.f2_model.specs.declared.events.MountRefusal.TheVariants.{ReadFailed, WriteFailed, BadImage, NoMemory}
+use Rattle.f2_model.specs.declared.modes.Format.{Format}
+use Rattle.f2_model.specs.declared.modes.Format.TheVariants.{Two}
+use Rattle.f2_model.specs.Step.{Faults, Turn, Writes, Flushes, StepBegin, Serves, BeginsFsync, BeginsCheck, TakesEffect, ReadFails, StepPart, StepFsync, StepCheck, StepFlight, StepMount, FindsMarks, FindsPending, called, adds_row, is_shut, is_up, freezing}
 use Rattle.f2_model.specs.declared.rows.Row.{Row}
 use Rattle.f2_model.specs.declared.rows.Kind.TheVariants.{Regular}
 use Rattle.f2_model.specs.declared.requests.Request.{Request}
 use Rattle.f2_model.specs.declared.requests.Request.TheVariants.{Create, Mkdir, Write, Truncate, Unlink, Rmdir, Rename, Read, List as ListNames, Fsync, Sync}
 use Rattle.f2_model.specs.declared.replies.Reply.{Reply}
+use Rattle.f2_model.specs.declared.replies.Reply.TheVariants as reply
 use Rattle.f2_model.specs.declared.replies.Plan.{Plan}
 use Rattle.f2_model.specs.declared.replies.Step.TheVariants as step
 use Rattle.f2_model.specs.declared.replies.Plan.TheVariants as plan
@@ -23,15 +31,18 @@ use Rattle.f2_model.specs.declared.histories.Entry.{Entry}
 use Rattle.f2_model.specs.declared.histories.Entry.TheVariants as entry
 use Rattle.f2_model.specs.declared.histories.CallKind.{CallKind}
 use Rattle.f2_model.specs.declared.histories.CallKind.TheVariants as kind
-use Rattle.f2_laws.proofs.Walks.{some_none, walk_ends}
+use Rattle.f2_laws.proofs.Walks.{walk_ends}
 use Rattle.f2_laws.proofs.Passed.{passed}
 use Rattle.f2_laws.proofs.NewRows.{same_space}
 use Rattle.f2_room_laws.specs.SoundTrees.{IsNumber, IsSoundTree}
-use Rattle.f2_room_laws.specs.SoundStates.{IsFrozen, IsSoundState, EventsKeepStatesSound}
-use Rattle.f2_room_laws.proofs.Seats.{nobody, no_check}
+use Rattle.f2_laws.specs.Flights.{IsFrozen}
+use Rattle.f2_room_laws.specs.SoundStates.{IsSoundState, EventsKeepStatesSound}
+use Rattle.f2_laws.proofs.Seats.{nobody, no_check, unbarred}
+use Rattle.f2_laws.proofs.Dirtied.{dirty_only}
 use Rattle.f2_room_laws.proofs.Effects.{Keeps, effect_keeps, effect_sound}
-use Rattle.f2_room_laws.proofs.Flying.{Idle, where_up}
-use Rattle.f2_room_laws.proofs.States.{Rolls, sound_aside, sound_told, sound_closed, sound_crashed, sound_left, sound_acknowledged, sound_checking, sound_pending, sound_logged, sound_changed, sound_begun, sound_part, sound_marked, sound_completed, sound_found}
+use Rattle.f2_laws.proofs.Flying.{Idle}
+use Rattle.f2_room_laws.proofs.Modes.{where_up}
+use Rattle.f2_room_laws.proofs.States.{Rolls, sound_aside, sound_told, sound_closed, sound_crashed, sound_left, sound_acknowledged, sound_checking, sound_pending, sound_logged, sound_drawn, sound_changed, sound_begun, sound_part, sound_marked, sound_completed, sound_found}
 
 -- a test, and an option, that both ways lead on from
 by_bool : {P Q G : Type 0} (b : Bool) → (b ≡ true → P → G) → (b ≡ false → Q → G) → MatchBool b P Q → G
@@ -46,33 +57,6 @@ shown : (b : Bool) → not b ≡ false → b ≡ true
 shown true e = refl
 shown false e = absurd (true≢false e)
 
--- what holds of a state with whatever dirty, moved and shrunk files holds after a call's marks of them
-with_rows_only : (P : State → Type 0) (state : State) (a b : Result Row Reply) (next : Row → Row → State) → P state → ((old new : Row) → P (next old new)) → P (with_rows state a b next)
-with_rows_only P state (Ok old) (Ok new) next h each = each old new
-with_rows_only P state (Ok old) (Err refused) next h each = h
-with_rows_only P state (Err refused) b next h each = h
-
-with_row_only : (P : State → Type 0) (state : State) (a : Result Row Reply) (next : Row → State) → P state → ((row : Row) → P (next row)) → P (with_row state a next)
-with_row_only P state (Ok row) next h each = each row
-with_row_only P state (Err refused) next h each = h
-
-module _ (P : State → Type 0) (state : State) (each : (pages nodes : Pairs) (moved shrunk : Inos) → P (record state { dirty_pages = pages; dirty_nodes = nodes; moved = moved; shrunk = shrunk })) (after : Rows) where
-  same : P state
-  same = each state.dirty_pages state.dirty_nodes state.moved state.shrunk
-
-  dirty_only : (request : Request) → P (marked_dirty state request after)
-  dirty_only (Write path pieces) = with_rows_only P state (walk state.live path) (walk after path) _ same (λ old new. each _ _ _ _)
-  dirty_only (Truncate path size) = with_rows_only P state (walk state.live path) (walk after path) _ same (λ old new. each _ _ _ _)
-  dirty_only (Unlink path) = with_row_only P state (walk state.live path) _ same (λ row. each _ _ _ _)
-  dirty_only (Rename from to) = with_row_only P state (walk state.live from) _ same (λ row. each _ _ _ _)
-  dirty_only (Create path) = same
-  dirty_only (Mkdir path) = same
-  dirty_only (Rmdir path) = same
-  dirty_only (Read path off len) = same
-  dirty_only (ListNames path) = same
-  dirty_only (Fsync path) = same
-  dirty_only Sync = same
-
 module _ (limits : Limits) (faults : Faults) (state : State) (turn : Turn) (h : IsSoundState limits state) where
   abbrev Stays : Type 0
   Stays = IsSoundState limits turn.after
@@ -81,8 +65,8 @@ module _ (limits : Limits) (faults : Faults) (state : State) (turn : Turn) (h : 
   is so holds e = subst (λ (t : Turn). IsSoundState limits t.after) (sym e) holds
 
   -- an event that changes nothing
-  still : (told : Answer) (entries : List Entry) (choices : List ℕ) → turn ≡ Step.turned told entries choices state → Stays
-  still told entries choices e = is (Step.turned told entries choices state) (sound_told limits state h (state.entries + length entries)) e
+  still : (told : Answer) (entries : List Entry) (choices : List ℕ) → turn ≡ Step.turn_with told entries choices state → Stays
+  still told entries choices e = is (Step.turn_with told entries choices state) (sound_told limits state h (state.entries + length entries)) e
 
   closes : (seat : ℕ) (call : CallKind) (failed : Answer) (so : Turn) → IsSoundState limits so.after → turn ≡ Step.closed_by_fault faults seat call failed so → Stays
   closes seat call failed so holds e = is (Step.closed_by_fault faults seat call failed so) (sound_closed limits so.after holds seat (so.after.entries + 1)) e
@@ -120,11 +104,11 @@ module _ (limits : Limits) (faults : Faults) (state : State) (turn : Turn) (h : 
         by_row None e = refl
         by_row (Some row) e = let number = h.live.numbers limits.nids row e in absurd (omega arith)
 
-    effective : (ino : ℕ) (choices : List ℕ) → (adds_row request ≡ true → IsFreeIno limits state ino) → space_refusal limits (effect state.live request ino) ≡ None → turn ≡ Step.did state seat request (answer state.live request) choices (called state request ino) → Stays
+    effective : (ino : ℕ) (choices : List ℕ) → (adds_row request ≡ true → IsFreeIno limits state ino) → space_refusal limits (effect state.live request ino) ≡ None → turn ≡ Step.told_at_once state seat request (answer state.live request) choices (called state request ino) → Stays
     effective ino choices free space e =
         let kept = keeps ino (λ adds. (free adds).no_row) in
         let sound = effect_sound limits state.live state.flights request ino h.live none (λ adds. (free adds).no_row) (λ adds. number ino (free adds)) space kept in
-        is (Step.did state seat request (answer state.live request) choices (called state request ino))
+        is (Step.told_at_once state seat request (answer state.live request) choices (called state request ino))
         (called_sound request ino ((called state request ino).entries + 1) sound kept (λ adds. (free adds).no_base_row) (λ adds. (free adds).not_logged)) e
       where
         number : (ino : ℕ) → IsFreeIno limits state ino → IsNumber limits ino
@@ -137,7 +121,7 @@ module _ (limits : Limits) (faults : Faults) (state : State) (turn : Turn) (h : 
         (λ adds e. effective 0 [] (λ yes. absurd (true≢false (sym yes ∙ adds))) (ap (space_refusal limits) (alike adds) ∙ space) e)
         taken
 
-    serves_other : (adds_row request ≡ false → effect state.live request 0 ≡ effect state.live request limits.nids) → MatchOption (space_refusal limits (effect state.live request limits.nids)) (TakesEffect limits state seat request turn ⊎ ReadFails faults state seat request turn) (λ refused. turn ≡ Step.did state seat request refused [] state) → Stays
+    serves_other : (adds_row request ≡ false → effect state.live request 0 ≡ effect state.live request limits.nids) → MatchOption (space_refusal limits (effect state.live request limits.nids)) (TakesEffect limits state seat request turn ⊎ ReadFails faults state seat request turn) (λ refused. turn ≡ Step.told_at_once state seat request refused [] state) → Stays
     serves_other alike served = by_option (space_refusal limits (effect state.live request limits.nids)) by_want (λ refused _ e. still _ _ _ e) served
       where
         by_want : space_refusal limits (effect state.live request limits.nids) ≡ None → TakesEffect limits state seat request turn ⊎ ReadFails faults state seat request turn → Stays
@@ -147,14 +131,14 @@ module _ (limits : Limits) (faults : Faults) (state : State) (turn : Turn) (h : 
   begins_check : (seat : ℕ) (request : Request) (plan : Plan) → BeginsCheck state seat request plan turn → Stays
   begins_check seat request plan begun =
       by_option (Step.least_in_flight state)
-      (λ none e. is _ (sound_checking limits state h seat plan (state.entries + 2) (nobody state none)) e)
+      (λ none e. is _ (sound_checking limits state h seat plan state.format (state.entries + 2) (nobody state none)) e)
       (λ by _ e. still _ _ _ e) begun
 
   begins_fsync : (seat : ℕ) (path : List (List ℕ)) → is_up state.mode ≡ true → Step.checking_seat state ≡ None → (end : Result Row Reply) → walk state.live path ≡ end → BeginsFsync limits state seat (Fsync path) end turn → Stays
   begins_fsync seat path up none (Err refused) leads e = still _ _ _ e
   begins_fsync seat path up none (Ok row) leads begun =
       by_option (fallback limits state row)
-      (λ rolls e. is _ (sound_begun limits state h seat (record { part = InPages; place = 0 }) row (state.entries + 1) up (walk_ends limits.size state.live h.live.good path row leads).there rolls (no_check state none)) e)
+      (λ rolls e. is _ (sound_begun limits state h seat fresh_progress row (state.entries + 1) up (walk_ends limits.size state.live h.live.good path row leads).there rolls (no_check state none)) e)
       (λ reason _. begins_check seat (Fsync path) (plan.Cp reason)) begun
 
   serves : (seat : ℕ) (request : Request) → is_up state.mode ≡ true → Step.checking_seat state ≡ None → refusal limits state.live request ≡ None → freezing state request ≡ None → Serves limits faults state seat request turn → Stays
@@ -170,14 +154,6 @@ module _ (limits : Limits) (faults : Faults) (state : State) (turn : Turn) (h : 
   serves seat (Read path off len) up none passes thawed served = serves_other seat (Read path off len) up passes thawed (λ _. refl) served
   serves seat (ListNames path) up none passes thawed served = serves_other seat (ListNames path) up passes thawed (λ _. refl) served
 
-  -- where no seat keeps one from beginning a call, no checkpoint is in flight
-  unbarred : (seat : ℕ) → Step.barring_seat state seat ≡ None → Step.checking_seat state ≡ None
-  unbarred seat none = by_own (map.contains_key state.flights seat) none
-    where
-      by_own : (b : Bool) → (if b then Some seat else Step.checking_seat state) ≡ None → Step.checking_seat state ≡ None
-      by_own true e = absurd (some_none e)
-      by_own false e = e
-
   begin : (seat : ℕ) (request : Request) → StepBegin limits faults state seat request turn → Stays
   begin seat request begun =
       by_bool (not (is_up state.mode)) (λ _ e. still _ _ _ e)
@@ -185,39 +161,46 @@ module _ (limits : Limits) (faults : Faults) (state : State) (turn : Turn) (h : 
       (λ _. by_option (Step.barring_seat state seat)
       (λ free. by_option (refusal limits state.live request)
       (λ passes. by_option (freezing state request)
-      (λ thawed. serves seat request (shown (is_up state.mode) open_now) (unbarred seat free) passes thawed)
+      (λ thawed. serves seat request (shown (is_up state.mode) open_now) (unbarred state seat free) passes thawed)
       (λ by _ e. still _ _ _ e))
       (λ refused _ e. still _ _ _ e))
       (λ by _ e. still _ _ _ e))) begun
 
-  fsync : (seat ino : ℕ) (stage : Stage) → map.get state.flights seat ≡ Some (InFsync ino stage) → is_shut state.mode ≡ false → (part : Part) → StepFsync faults state seat ino stage part turn → Stays
-  fsync seat ino stage there open_now InPages stepped =
+  part : (seat ino : ℕ) (progress : Progress) → map.get state.flights seat ≡ Some (InFsync ino progress) → is_shut state.mode ≡ false → (at : Part) → StepPart faults state seat ino progress at turn → Stays
+  part seat ino progress there open_now InPages stepped =
       by_option (Step.least_of state.dirty_pages ino)
-      (λ _. flushes seat Step.step_failed _ (sound_part limits state h seat ino stage there (record { part = InNodes; place = 0 }) (state.entries + 1)))
+      (λ _. flushes seat Step.step_failed _ (sound_part limits state h seat ino progress there (in_nodes None) (state.entries + 1)))
       (λ page _. writes seat Step.step_failed _ (sound_aside limits state h (set.remove state.dirty_pages (ino, page)) state.dirty_nodes state.moved state.shrunk state.node_writes (state.data_writes + 1) (state.entries + 1))) stepped
-  fsync seat ino stage there open_now InNodes stepped =
+  part seat ino progress there open_now InNodes stepped =
       by_option (Step.least_of state.dirty_nodes ino)
       (λ _. by_option (map.get state.live ino) (λ _ never. absurd never)
-      (λ row row_there. writes seat Step.step_failed (Step.marked state seat ino row) (sound_marked limits state h seat ino stage there row row_there open_now (record { part = Marked; place = length state.marks }) (state.node_writes + 1) (state.entries + 1))))
-      (λ offset _. writes seat Step.step_failed _ (sound_logged limits state h ino (set.remove state.dirty_nodes (ino, offset)) (state.node_writes + 1) (state.entries + 1))) stepped
-  fsync seat ino stage there open_now Marked stepped =
-      flushes seat Step.step_failed (Step.acknowledges state seat ino stage) (sound_acknowledged limits state h seat (max state.acknowledged (stage.place + 1)) (state.entries + 1) (omega arith)) stepped
+      (λ row row_there. is (Step.mark_drawn state seat ino row) (sound_marked limits state h seat ino progress there row row_there open_now (marked_at (length state.marks) state.node_writes (Some (Step.next_slot state DrawnMark))) (state.node_writes + 1) (state.entries + 1))))
+      (λ offset _. is (Step.node_drawn state seat ino offset) (sound_drawn limits state h seat ino progress there offset (state.entries + 1))) stepped
+  part seat ino progress there open_now Marked stepped =
+      by_option (Step.gap_below state progress.position)
+      (λ _. flushes seat Step.step_failed (Step.acknowledges state seat ino progress) (sound_acknowledged limits state h seat (max state.acknowledged (progress.place + 1)) (state.entries + 1) (omega arith)))
+      (λ position _ e. still _ _ _ e) stepped
+
+  fsync : (seat ino : ℕ) (progress : Progress) → map.get state.flights seat ≡ Some (InFsync ino progress) → is_shut state.mode ≡ false → StepFsync faults state seat ino progress turn → Stays
+  fsync seat ino progress there open_now stepped =
+      by_option progress.slot (λ _. part seat ino progress there open_now progress.part)
+      (λ slot _. writes seat Step.step_failed _ (sound_part limits state h seat ino progress there (record progress { slot = None }) (state.entries + 0))) stepped
 
   check : (seat : ℕ) (plan : Plan) → map.get state.flights seat ≡ Some (InCheck plan) → StepCheck faults state seat plan turn → Stays
   check seat plan there stepped =
       by_option state.pending (λ _. by_pending)
       (λ tree _. flushes seat Step.step_failed (Step.completes state seat plan) (sound_completed limits state h seat plan (Step.is_unmount state seat) (state.entries + length (Step.completes state seat plan).entries) there)) stepped
     where
-      by_block : Writes faults seat Step.step_failed (Step.unchanged state (Step.Stepped step.Block)) turn ⊎ Flushes faults state seat Step.step_failed (Step.unchanged state (Step.Stepped step.Block)) turn → Stays
+      by_block : Writes faults seat Step.step_failed (Step.unchanged state (Stepped step.Block)) turn ⊎ Flushes faults state seat Step.step_failed (Step.unchanged state (Stepped step.Block)) turn → Stays
       by_block (inl e) = writes seat Step.step_failed _ (sound_told limits state h (state.entries + 0)) e
       by_block (inr e) = flushes seat Step.step_failed _ (sound_told limits state h (state.entries + 0)) e
 
-      by_pending : Step.WritesBlock faults state seat turn ⊎ Writes faults seat Step.step_failed (Step.turned (Step.Stepped step.Tail) (entry.CpTail seat ∷ []) [] (record state { pending = Some state.live })) turn → Stays
+      by_pending : Step.WritesBlock faults state seat turn ⊎ Writes faults seat Step.step_failed (Step.turn_with (Stepped step.Tail) (entry.CpTail seat ∷ []) [] (record state { pending = Some state.live })) turn → Stays
       by_pending (inl e) = by_block e
       by_pending (inr e) = writes seat Step.step_failed _ (sound_pending limits state h (state.entries + 1)) e
 
   flight : (seat : ℕ) (one : Flight) → map.get state.flights seat ≡ Some one → is_shut state.mode ≡ false → StepFlight faults state seat one turn → Stays
-  flight seat (InFsync ino stage) there open_now stepped = fsync seat ino stage there open_now stage.part stepped
+  flight seat (InFsync ino progress) there open_now stepped = fsync seat ino progress there open_now stepped
   flight seat (InCheck plan) there open_now stepped = check seat plan there stepped
 
   go : (seat : ℕ) → Step.StepGo faults state seat turn → Stays
@@ -251,32 +234,37 @@ module _ (limits : Limits) (faults : Faults) (state : State) (turn : Turn) (h : 
   mount stepped = by_bool (not (is_shut state.mode)) (λ _ e. still _ _ _ e) (λ _. mounting) stepped
     where
       finds_pending : FindsPending state turn → Stays
-      finds_pending found = by_option state.pending (λ _ never. absurd never) (λ tree is_there e. is (Step.found state tree [] 1) (sound_found limits state tree [] 1 (h.pending tree is_there)) e) found
+      finds_pending found = by_option state.pending (λ _ never. absurd never) (λ tree is_there e. is (Step.found state (pending_with state tree) 1) (sound_found limits state (pending_with state tree) 1 (h.pending tree is_there)) e) found
 
-      fails : (seat : ℕ) (call : CallKind) (refused : Step.MountRefusal) → turn ≡ Step.closed_by_fault faults seat call (Step.NotMounted refused) (Step.unchanged state (Step.NotMounted refused)) → Stays
-      fails seat call refused e = closes seat call (Step.NotMounted refused) (Step.unchanged state (Step.NotMounted refused)) (sound_told limits state h (state.entries + 0)) e
+      fails : (seat : ℕ) (call : CallKind) (refused : MountRefusal) → turn ≡ Step.closed_by_fault faults seat call (NotMounted refused) (Step.unchanged state (NotMounted refused)) → Stays
+      fails seat call refused e = closes seat call (NotMounted refused) (Step.unchanged state (NotMounted refused)) (sound_told limits state h (state.entries + 0)) e
 
-      mounting : FindsMarks state turn ⊎ FindsPending state turn ⊎ Step.MountFails faults state Step.ReadFailed kind.Read turn ⊎ Step.MountFails faults state Step.WriteFailed kind.Flush turn ⊎ (turn ≡ Step.unchanged state (Step.NotMounted Step.BadImage)) ⊎ (turn ≡ Step.unchanged state (Step.NotMounted Step.NoMemory)) → Stays
-      mounting (inl found) = is (Step.found state state.base (take found.0 state.marks) 0) (sound_found limits state state.base (take found.0 state.marks) 0 (h.remains found.0 found.1 found.2)) found.3
+      mounting : FindsMarks state turn ⊎ FindsPending state turn ⊎ Step.MountFails faults state ReadFailed kind.Read turn ⊎ Step.MountFails faults state WriteFailed kind.Flush turn ⊎ (turn ≡ Step.unchanged state (NotMounted BadImage)) ⊎ (turn ≡ Step.unchanged state (NotMounted NoMemory)) → Stays
+      mounting (inl found) = is (Step.found state (base_up_to state found.0) 0) (sound_found limits state (base_up_to state found.0) 0 (h.remains found.0 found.1 found.2)) found.3
       mounting (inr (inl found)) = finds_pending found
-      mounting (inr (inr (inl failed))) = fails Step.NO_SEAT kind.Read Step.ReadFailed failed.1
-      mounting (inr (inr (inr (inl failed)))) = fails Step.NO_SEAT kind.Flush Step.WriteFailed failed.1
+      mounting (inr (inr (inl failed))) = fails Step.NO_SEAT kind.Read ReadFailed failed.1
+      mounting (inr (inr (inr (inl failed)))) = fails Step.NO_SEAT kind.Flush WriteFailed failed.1
       mounting (inr (inr (inr (inr (inl e))))) = still _ _ _ e
       mounting (inr (inr (inr (inr (inr e))))) = still _ _ _ e
 
-  unmount : Step.StepUnmount state turn → Stays
-  unmount stepped =
+  close : (format : Format) → Step.StepClose state format turn → Stays
+  close format stepped =
       by_bool (not (is_up state.mode)) (λ _ e. still _ _ _ e)
       (λ _. by_option (Step.least_in_flight state)
-      (λ none e. is _ (sound_checking limits state h Step.MOUNT_SEAT plan.Sync (state.entries + 1) (nobody state none)) e)
+      (λ none e. is _ (sound_checking limits state h Step.MOUNT_SEAT plan.Sync format (state.entries + 1) (nobody state none)) e)
       (λ by _ e. still _ _ _ e)) stepped
 
 pub events_keep_states_sound : EventsKeepStatesSound
-events_keep_states_sound limits faults state (Begin seat request) turn (inl stepped) h = begin limits faults state turn h seat request stepped
-events_keep_states_sound limits faults state (Begin seat request) turn (inr e) h = still limits faults state turn h _ _ _ e
+events_keep_states_sound limits faults state (Begin seat request) turn step h = by_memory step.1
+  where
+    by_memory : StepBegin limits faults state seat request turn ⊎ (turn ≡ Step.unchanged state (Step.replied reply.Memory)) → IsSoundState limits turn.after
+    by_memory (inl stepped) = begin limits faults state turn h seat request stepped
+    by_memory (inr e) = still limits faults state turn h _ _ _ e
 events_keep_states_sound limits faults state (Go seat) turn stepped h = go limits faults state turn h seat stepped
 events_keep_states_sound limits faults state Tick turn stepped h = ticks limits faults state turn h stepped
 events_keep_states_sound limits faults state Mount turn stepped h = mount limits faults state turn h stepped
-events_keep_states_sound limits faults state Unmount turn (inl stepped) h = unmount limits faults state turn h stepped
+events_keep_states_sound limits faults state Unmount turn (inl stepped) h = close limits faults state turn h state.format stepped
 events_keep_states_sound limits faults state Unmount turn (inr e) h = still limits faults state turn h _ _ _ e
+events_keep_states_sound limits faults state Upgrade turn (inl stepped) h = close limits faults state turn h Two stepped
+events_keep_states_sound limits faults state Upgrade turn (inr e) h = still limits faults state turn h _ _ _ e
 events_keep_states_sound limits faults state Crash turn e h = is limits faults state turn h (Step.crashed state) (sound_crashed limits state h (state.entries + 1)) e

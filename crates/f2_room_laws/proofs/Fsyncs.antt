@@ -7,14 +7,14 @@ use Rattle.std.specs.FinMap as map
 use Rattle.std.specs.FinSet as set
 use Rattle.std.proofs.lemmas.Bool.{ltb-false, ne_eqb}
 use Rattle.f2_model.specs.Tree.{Rows, ROOT, is_directory, stands_at, names_of}
-use Rattle.f2_model.specs.State.{State, Flight, InFsync, Stage, rolled}
-use Rattle.f2_model.specs.Fallback.{fallback, first_reason, is_name_taken, lacks_room, held, recoverable, frozen_inos}
+use Rattle.f2_model.specs.State.{State, InFsync, Progress, rolled}
+use Rattle.f2_model.specs.Lists.{first_some}
+use Rattle.f2_model.specs.Fallback.{fallback, is_name_taken, lacks_room, held, recoverable, frozen_inos}
 use Rattle.f2_model.specs.declared.bounds.Limits.{Limits}
 use Rattle.f2_model.specs.declared.replies.Reason.{Reason}
 use Rattle.f2_model.specs.declared.replies.Reason.TheVariants.{NonRegular, Renamed, ParentNew, NameTaken, Shrunk, Room}
 use Rattle.f2_model.specs.declared.rows.Row.{Row}
 use Rattle.f2_model.specs.declared.rows.Kind.TheVariants.{Regular}
-use Rattle.f2_laws.proofs.Maps.{get_put, get_put-other}
 use Rattle.f2_laws.proofs.Passed.{regular, either_false, not_false}
 use Rattle.f2_laws.proofs.Names.{stands_true}
 use Rattle.f2_laws.proofs.Places.{same_or_other}
@@ -22,11 +22,14 @@ use Rattle.f2_held.specs.Recovered.{IsOneOf, rows_of}
 use Rattle.f2_held.proofs.RowLists.{one_of-left, one_of-right, value_is_one, rolled_row}
 use Rattle.f2_room_laws.specs.SoundTrees.{IsSoundTree}
 use Rattle.f2_room_laws.specs.Marking.{RowsHaveRoom}
-use Rattle.f2_room_laws.specs.SoundStates.{Flights, IsFrozen, IsReady, IsRolling}
-use Rattle.f2_room_laws.proofs.Members.{Has, has-left, has-right, has_row, mapped_has, frozen_has, none_passes}
+use Rattle.f2_laws.specs.Flights.{Flights, IsFrozen}
+use Rattle.f2_laws.proofs.Listed.{Has, has-left, has-right, mapped_has}
+use Rattle.f2_laws.proofs.Flying.{frozen_more}
+use Rattle.f2_room_laws.specs.SoundStates.{IsReady, IsRolling}
+use Rattle.f2_room_laws.proofs.Members.{has_row, frozen_has, none_passes}
 use Rattle.f2_room_laws.proofs.Rolling.{no_root}
 
-not_first : (b : Bool) (reason : Reason) (rest : List (Option Reason)) → first_reason (then_some b reason ∷ rest) ≡ None → (b ≡ false) × (first_reason rest ≡ None)
+not_first : (b : Bool) (reason : Reason) (rest : List (Option Reason)) → first_some (then_some b reason ∷ rest) ≡ None → (b ≡ false) × (first_some rest ≡ None)
 not_first true reason rest h = absurd (cc)
 not_first false reason rest h = (refl, h)
 
@@ -37,7 +40,7 @@ after_up taken cut full = then_some taken NameTaken ∷ then_some cut Shrunk ∷
 abbrev all_reasons : Bool → Bool → Bool → Bool → Bool → Bool → List (Option Reason)
 all_reasons other away new taken cut full = then_some other NonRegular ∷ then_some away Renamed ∷ then_some new ParentNew ∷ after_up taken cut full
 
-no_reason : (other away new taken cut full : Bool) → first_reason (all_reasons other away new taken cut full) ≡ None → (other ≡ false) × (new ≡ false) × (taken ≡ false) × (full ≡ false)
+no_reason : (other away new taken cut full : Bool) → first_some (all_reasons other away new taken cut full) ≡ None → (other ≡ false) × (new ≡ false) × (taken ≡ false) × (full ≡ false)
 no_reason other away new taken cut full h =
     let file = not_first other NonRegular (then_some away Renamed ∷ then_some new ParentNew ∷ after_up taken cut full) h in
     let still = not_first away Renamed (then_some new ParentNew ∷ after_up taken cut full) file.1 in
@@ -64,17 +67,6 @@ rolls limits state row h =
 some_there : (o : Option Row) → is_some o ≡ true → (row : Row) × (o ≡ Some row)
 some_there None e = absurd (true≢false (sym e))
 some_there (Some row) e = (row, refl)
-
--- the files in fsync once one more is
-pub frozen_more : (flights : Flights) (seat ino : ℕ) (stage : Stage) (at : ℕ) → IsFrozen (map.insert flights seat (InFsync ino stage)) at → (at ≡ ino) ⊎ IsFrozen flights at
-frozen_more flights seat ino stage at frozen = by_seat (same_or_other frozen.0 seat)
-  where
-    one_ino : (i j : ℕ) (a b : Stage) → ◌≡◌ {A = Option Flight} (Some (InFsync i a)) (Some (InFsync j b)) → j ≡ i
-    one_ino i j a b e = cc
-
-    by_seat : (frozen.0 ≡ seat) ⊎ (frozen.0 ≢ seat) → (at ≡ ino) ⊎ IsFrozen flights at
-    by_seat (inl same) = inl (one_ino ino at stage frozen.1.0 (sym (get_put flights seat (InFsync ino stage)) ∙ ap (λ s. map.get (map.insert flights seat (InFsync ino stage)) s) (sym same) ∙ frozen.1.1))
-    by_seat (inr other) = inr (frozen.0, (frozen.1.0, sym (get_put-other flights seat (InFsync ino stage) frozen.0 other) ∙ frozen.1.1))
 
 module _ (limits : Limits) (state : State) (sound : IsSoundTree limits state.live) (h : IsRolling limits state.live state.base state.marks state.flights state.logged) (row : Row) (there : map.get state.live row.ino ≡ Some row) (none : fallback limits state row ≡ None) where
   tests : RollsForward limits state row
@@ -122,9 +114,9 @@ module _ (limits : Limits) (state : State) (sound : IsSoundTree limits state.liv
   ready : IsReady state.live state.base tree_now row.ino
   ready = record { row = row; there = there; regular = row_regular; parent = some_there (map.get state.base row.parent) (not_false (map.contains_key state.base row.parent) tests.parent); free = free }
 
-  module _ (seat : ℕ) (stage : Stage) where
+  module _ (seat : ℕ) (progress : Progress) where
     abbrev flights_more : Flights
-    flights_more = map.insert state.flights seat (InFsync row.ino stage)
+    flights_more = map.insert state.flights seat (InFsync row.ino progress)
 
     abbrev rows_more : List Row
     rows_more = recoverable state row.ino
@@ -132,7 +124,7 @@ module _ (limits : Limits) (state : State) (sound : IsSoundTree limits state.liv
     listed_more : (at : ℕ) (one : Row) → IsFrozen flights_more at → map.get state.live at ≡ Some one → IsOneOf one rows_more
     listed_more at one frozen found =
         one_of-right one known_rows (filter_map (map.get state.live) (frozen_inos state ++ row.ino ∷ []))
-        (has_row one (filter_map (map.get state.live) (frozen_inos state ++ row.ino ∷ [])) (mapped_has (map.get state.live) at one (frozen_inos state ++ row.ino ∷ []) (ino_listed (frozen_more state.flights seat row.ino stage at frozen)) found))
+        (has_row one (filter_map (map.get state.live) (frozen_inos state ++ row.ino ∷ [])) (mapped_has (map.get state.live) at one (frozen_inos state ++ row.ino ∷ []) (ino_listed (frozen_more state.flights seat row.ino progress at frozen)) found))
       where
         ino_listed : (at ≡ row.ino) ⊎ IsFrozen state.flights at → Has at (frozen_inos state ++ row.ino ∷ [])
         ino_listed (inl same) = has-right at (frozen_inos state) (row.ino ∷ []) (inl same)
@@ -155,7 +147,7 @@ module _ (limits : Limits) (state : State) (sound : IsSoundTree limits state.liv
       kept = h.kept;
       known = h.known;
       kinds = h.kinds;
-      files = λ at frozen. ready_at at (frozen_more state.flights seat row.ino stage at frozen);
+      files = λ at frozen. ready_at at (frozen_more state.flights seat row.ino progress at frozen);
       space = λ at frozen. record { rows = rows_more; room = room_found; frozen = listed_more };
     }
       where

@@ -1,11 +1,11 @@
 pub mod Members
 pub mod Marks
-pub mod Seats
 pub mod Effects
 pub mod Rolling
 pub mod Fsyncs
-pub mod Flying
+pub mod Modes
 pub mod States
 pub mod Events
 pub mod BareTree
 pub mod Runs
+pub mod Stays

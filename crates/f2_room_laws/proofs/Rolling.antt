@@ -19,7 +19,8 @@ use Rattle.f2_held.specs.Recovered.{IsOneOf}
 use Rattle.f2_held.proofs.RowLists.{one_of-left, one_of-right}
 use Rattle.f2_room_laws.specs.SoundTrees.{IsSoundTree}
 use Rattle.f2_room_laws.specs.Marking.{MayComeIn, RowsHaveRoom}
-use Rattle.f2_room_laws.specs.SoundStates.{Flights, IsFrozen, IsReady, FilesHaveRoom, IsRolling}
+use Rattle.f2_laws.specs.Flights.{Flights, IsFrozen}
+use Rattle.f2_room_laws.specs.SoundStates.{IsReady, FilesHaveRoom, IsRolling}
 use Rattle.f2_room_laws.proofs.Members.{one_of-either}
 use Rattle.f2_room_laws.proofs.Marks.{regular_more, rolled_more, marks_come_in}
 use Rattle.f2_room_laws.proofs.Effects.{Keeps}

@@ -5,20 +5,24 @@ use Rattle.std.specs.FinMap as map
 use Rattle.std.specs.FinSet as set
 use Rattle.std.proofs.lemmas.List.{take_all, take-append-le, length-append}
 use Rattle.f2_model.specs.Tree.{Rows}
-use Rattle.f2_model.specs.State.{State, Mark, Shut, Up, Stage, Flight, InFsync, InCheck, Pairs, Inos, rolled}
+use Rattle.f2_model.specs.State.{State, Mark, Meaning, DrawnNode, Progress, in_nodes, Flight, InFsync, InCheck, Pairs, Inos, rolled}
+use Rattle.f2_model.specs.declared.modes.Mode.TheVariants.{Shut, Up}
+use Rattle.f2_model.specs.declared.modes.Format.{Format}
 use Rattle.f2_model.specs.Fallback.{fallback}
-use Rattle.f2_model.specs.Step.{is_up, is_shut, found, based, MOUNT_SEAT}
+use Rattle.f2_model.specs.Step.{is_up, is_shut, found, with_base, node_drawn, next_slot, MOUNT_SEAT}
 use Rattle.f2_model.specs.declared.bounds.Limits.{Limits}
 use Rattle.f2_model.specs.declared.replies.Plan.{Plan}
 use Rattle.f2_model.specs.declared.replies.Plan.TheVariants as plan
 use Rattle.f2_model.specs.declared.rows.Row.{Row}
 use Rattle.f2_laws.proofs.Walks.{some_same, some_none}
 use Rattle.f2_room_laws.specs.SoundTrees.{IsSoundTree}
-use Rattle.f2_room_laws.specs.SoundStates.{IsFrozen, IsRolling, InMode, IsSoundState, InitialIsSound}
+use Rattle.f2_laws.specs.Flights.{IsFrozen}
+use Rattle.f2_room_laws.specs.SoundStates.{IsRolling, InMode, IsSoundState, InitialIsSound}
 use Rattle.f2_room_laws.proofs.Effects.{Keeps}
 use Rattle.f2_room_laws.proofs.Rolling.{rolling_fewer, rolling_logged, rolling_live, rolling_marked, rolling_based, whole_more}
 use Rattle.f2_room_laws.proofs.Fsyncs.{rolling_begun}
-use Rattle.f2_room_laws.proofs.Flying.{Idle, frozen_left, frozen_check, frozen_part, alone_left, alone_fsync, alone_check, alone_part, idle_after_check, nobody_yet, in_mode, where_up, put_up, up_in_fsync}
+use Rattle.f2_laws.proofs.Flying.{Idle, frozen_left, frozen_check, frozen_part, alone_left, alone_fsync, alone_check, alone_part, idle_after_check, nobody_yet}
+use Rattle.f2_room_laws.proofs.Modes.{in_mode, where_up, put_up, up_in_fsync}
 
 abbrev pub Rolls : Limits → State → Type 0
 Rolls limits s = IsRolling limits s.live s.base s.marks s.flights s.logged
@@ -57,9 +61,9 @@ module _ (limits : Limits) (s : State) (h : IsSoundState limits s) where
       let left = sound_left seat entries in
       record { live = left.live; pending = left.pending; remains = λ k from to. h.remains k (omega arith) to; alone = left.alone; mode = left.mode }
 
-  -- a checkpoint begins where nobody is in flight
-  pub sound_checking : (seat : ℕ) (plan : Plan) (entries : ℕ) → ((at : ℕ) (one : Flight) → map.get s.flights at ≡ Some one → ⊥) → IsSoundState limits (record s { flights = map.insert s.flights seat (InCheck plan); entries = entries })
-  sound_checking seat plan entries nobody = record {
+  -- a checkpoint of a format begins where nobody is in flight
+  pub sound_checking : (seat : ℕ) (plan : Plan) (format : Format) (entries : ℕ) → ((at : ℕ) (one : Flight) → map.get s.flights at ≡ Some one → ⊥) → IsSoundState limits (record s { flights = map.insert s.flights seat (InCheck plan); next_format = format; entries = entries })
+  sound_checking seat plan format entries nobody = record {
     live = h.live;
     pending = h.pending;
     remains = h.remains;
@@ -96,34 +100,50 @@ module _ (limits : Limits) (s : State) (h : IsSoundState limits s) where
   }
 
   -- an fsync of a row begins, and rolls forward
-  pub sound_begun : (seat : ℕ) (stage : Stage) (row : Row) (entries : ℕ) → is_up s.mode ≡ true → map.get s.live row.ino ≡ Some row → fallback limits s row ≡ None → ((at : ℕ) (plan : Plan) → map.get s.flights at ≡ Some (InCheck plan) → ⊥) → IsSoundState limits (record s { flights = map.insert s.flights seat (InFsync row.ino stage); entries = entries })
-  sound_begun seat stage row entries up there none no_check = record {
+  pub sound_begun : (seat : ℕ) (progress : Progress) (row : Row) (entries : ℕ) → is_up s.mode ≡ true → map.get s.live row.ino ≡ Some row → fallback limits s row ≡ None → ((at : ℕ) (plan : Plan) → map.get s.flights at ≡ Some (InCheck plan) → ⊥) → IsSoundState limits (record s { flights = map.insert s.flights seat (InFsync row.ino progress); entries = entries })
+  sound_begun seat progress row entries up there none no_check = record {
     live = h.live;
     pending = h.pending;
     remains = h.remains;
-    alone = alone_fsync s.flights seat row.ino stage no_check;
-    mode = put_up s.mode (Idle (map.insert s.flights seat (InFsync row.ino stage))) (IsRolling limits s.live s.base s.marks (map.insert s.flights seat (InFsync row.ino stage)) s.logged) up
-        (rolling_begun limits s h.live (where_up s.mode (Idle s.flights) (Rolls limits s) up h.mode) row there none seat stage);
+    alone = alone_fsync s.flights seat row.ino progress no_check;
+    mode = put_up s.mode (Idle (map.insert s.flights seat (InFsync row.ino progress))) (IsRolling limits s.live s.base s.marks (map.insert s.flights seat (InFsync row.ino progress)) s.logged) up
+        (rolling_begun limits s h.live (where_up s.mode (Idle s.flights) (Rolls limits s) up h.mode) row there none seat progress);
   }
 
   -- an fsync in flight goes on
-  module _ (seat ino : ℕ) (stage : Stage) (there : map.get s.flights seat ≡ Some (InFsync ino stage)) where
-    pub sound_part : (next : Stage) (entries : ℕ) → IsSoundState limits (record s { flights = map.insert s.flights seat (InFsync ino next); entries = entries })
+  module _ (seat ino : ℕ) (progress : Progress) (there : map.get s.flights seat ≡ Some (InFsync ino progress)) where
+    pub sound_part : (next : Progress) (entries : ℕ) → IsSoundState limits (record s { flights = map.insert s.flights seat (InFsync ino next); entries = entries })
     sound_part next entries = record {
       live = h.live;
       pending = h.pending;
       remains = h.remains;
-      alone = alone_part s.flights seat ino stage next there h.alone;
+      alone = alone_part s.flights seat ino progress next there h.alone;
       mode = in_mode s.mode (Idle s.flights) (Idle (map.insert s.flights seat (InFsync ino next))) (Rolls limits s) (IsRolling limits s.live s.base s.marks (map.insert s.flights seat (InFsync ino next)) s.logged)
-          (λ idle at frozen. idle at (frozen_part s.flights seat ino stage next there at frozen))
-          (λ rolling. rolling_fewer limits s.live s.base s.marks s.flights s.logged rolling (map.insert s.flights seat (InFsync ino next)) (frozen_part s.flights seat ino stage next there))
+          (λ idle at frozen. idle at (frozen_part s.flights seat ino progress next there at frozen))
+          (λ rolling. rolling_fewer limits s.live s.base s.marks s.flights s.logged rolling (map.insert s.flights seat (InFsync ino next)) (frozen_part s.flights seat ino progress next there))
           h.mode;
     }
 
+    -- and takes a position of the log for a node
+    pub sound_drawn : (offset entries : ℕ) → IsSoundState limits (record (node_drawn s seat ino offset).after { entries = entries })
+    sound_drawn offset entries =
+        let logged = sound_logged ino (set.remove s.dirty_nodes (ino, offset)) (s.node_writes + 1) entries in
+        let next = in_nodes (Some (next_slot s (DrawnNode offset))) in
+        record {
+          live = logged.live;
+          pending = logged.pending;
+          remains = logged.remains;
+          alone = alone_part s.flights seat ino progress next there h.alone;
+          mode = in_mode s.mode (Idle s.flights) (Idle (map.insert s.flights seat (InFsync ino next))) (IsRolling limits s.live s.base s.marks s.flights (set.insert s.logged ino)) (IsRolling limits s.live s.base s.marks (map.insert s.flights seat (InFsync ino next)) (set.insert s.logged ino))
+              (λ idle at frozen. idle at (frozen_part s.flights seat ino progress next there at frozen))
+              (λ rolling. rolling_fewer limits s.live s.base s.marks s.flights (set.insert s.logged ino) rolling (map.insert s.flights seat (InFsync ino next)) (frozen_part s.flights seat ino progress next there))
+              logged.mode;
+        }
+
     -- and marks its file
-    module _ (row : Row) (row_there : map.get s.live ino ≡ Some row) (open_now : is_shut s.mode ≡ false) (next : Stage) where
+    module _ (row : Row) (row_there : map.get s.live ino ≡ Some row) (open_now : is_shut s.mode ≡ false) (next : Progress) where
       frozen : IsFrozen s.flights ino
-      frozen = (seat, (stage, there))
+      frozen = (seat, (progress, there))
 
       up : is_up s.mode ≡ true
       up = up_in_fsync s.mode (Idle s.flights) (Rolls limits s) open_now (λ idle. idle ino frozen) h.mode
@@ -151,13 +171,13 @@ module _ (limits : Limits) (s : State) (h : IsSoundState limits s) where
         live = h.live;
         pending = h.pending;
         remains = remains_more;
-        alone = alone_part s.flights seat ino stage next there h.alone;
+        alone = alone_part s.flights seat ino progress next there h.alone;
         mode = put_up s.mode (Idle (map.insert s.flights seat (InFsync ino next))) (IsRolling limits s.live s.base (s.marks ++ mark ∷ []) (map.insert s.flights seat (InFsync ino next)) (set.insert s.logged ino)) up
-            (rolling_fewer limits s.live s.base (s.marks ++ mark ∷ []) s.flights (set.insert s.logged ino) (rolling_marked limits s.live s.base s.marks s.flights s.logged rolling h.live ino row frozen row_there) (map.insert s.flights seat (InFsync ino next)) (frozen_part s.flights seat ino stage next there));
+            (rolling_fewer limits s.live s.base (s.marks ++ mark ∷ []) s.flights (set.insert s.logged ino) (rolling_marked limits s.live s.base s.marks s.flights s.logged rolling h.live ino row frozen row_there) (map.insert s.flights seat (InFsync ino next)) (frozen_part s.flights seat ino progress next there));
       }
 
   -- a checkpoint is done
-  pub sound_completed : (seat : ℕ) (plan : Plan) (closes : Bool) (entries : ℕ) → map.get s.flights seat ≡ Some (InCheck plan) → IsSoundState limits (record (based s s.live (if closes then Shut else Up)) { flights = map.remove s.flights seat; entries = entries })
+  pub sound_completed : (seat : ℕ) (plan : Plan) (closes : Bool) (entries : ℕ) → map.get s.flights seat ≡ Some (InCheck plan) → IsSoundState limits (record (with_base s s.live s.next_format (s.version + 1) (if closes then Shut else Up)) { flights = map.remove s.flights seat; entries = entries })
   sound_completed seat plan closes entries there = record {
     live = h.live;
     pending = λ tree is. absurd (some_none (sym is));
@@ -175,11 +195,11 @@ module _ (limits : Limits) (s : State) (h : IsSoundState limits s) where
       by_closing false = rolling_based limits s.live (map.remove s.flights seat) set.empty h.live (idle_after_check s.flights seat plan h.alone there)
 
 -- a state in which all marks are acknowledged, nobody rolls forward, and the tree that calls see is what a mount finds
-pub sound_found : (limits : Limits) (s : State) (base : Rows) (marks : List Mark) (choice : ℕ) → IsSoundTree limits (rolled base marks) → IsSoundState limits (found s base marks choice).after
-sound_found limits s base marks choice sound = record {
+pub sound_found : (limits : Limits) (s : State) (meaning : Meaning) (choice : ℕ) → IsSoundTree limits (rolled meaning.base meaning.marks) → IsSoundState limits (found s meaning choice).after
+sound_found limits s meaning choice sound = record {
   live = sound;
   pending = λ tree is. absurd (some_none (sym is));
-  remains = λ k from to. subst (λ (ms : List Mark). IsSoundTree limits (rolled base ms)) (sym (take_all k marks from)) sound;
+  remains = λ k from to. subst (λ (ms : List Mark). IsSoundTree limits (rolled meaning.base ms)) (sym (take_all k meaning.marks from)) sound;
   alone = alone_check map.empty MOUNT_SEAT plan.Sync nobody_yet;
   mode = λ ino frozen. no_fsync ino (frozen_check map.empty MOUNT_SEAT plan.Sync ino frozen);
 }
@@ -188,10 +208,10 @@ sound_found limits s base marks choice sound = record {
     no_fsync ino frozen = nobody_yet frozen.0 (InFsync ino frozen.1.0) frozen.1.1
 
 pub initial_sound : InitialIsSound
-initial_sound limits base marks sound = record {
+initial_sound limits meaning sound = record {
   live = sound;
   pending = λ tree is. absurd (some_none (sym is));
-  remains = λ k from to. subst (λ (ms : List Mark). IsSoundTree limits (rolled base ms)) (sym (take_all k marks from)) sound;
+  remains = λ k from to. subst (λ (ms : List Mark). IsSoundTree limits (rolled meaning.base ms)) (sym (take_all k meaning.marks from)) sound;
   alone = λ seat other plan flight check there. absurd (nobody_yet seat (InCheck plan) check);
   mode = tt;
 }

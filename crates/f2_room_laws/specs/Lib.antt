@@ -3,3 +3,4 @@ pub mod SoundTrees
 pub mod Marking
 pub mod SoundStates
 pub mod Running
+pub mod Staying

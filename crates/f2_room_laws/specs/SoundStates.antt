@@ -1,26 +1,21 @@
 -- States from which a crash leaves nothing but sound trees: what every event keeps.
 use Rattle.std.specs.Prelude.{◌≡◌, ◌≢◌, ℕ, ◌≤◌, false, List, map as map_list, take, length, Some}
-use Rattle.std.specs.Ordering.{nat_cmp}
 use Rattle.std.specs.FinMap as map
 use Rattle.std.specs.FinSet as set
 use Rattle.f2_model.specs.Tree.{Rows, ROOT}
-use Rattle.f2_model.specs.State.{State, Mark, Mode, Shut, Mounting, Up, Stage, Flight, InFsync, InCheck, Inos, rolled, initial}
-use Rattle.f2_model.specs.Step.{Event, Faults, Turn, Step}
+use Rattle.f2_model.specs.State.{State, Mark, Meaning, Flight, InCheck, Inos, rolled, initial}
+use Rattle.f2_model.specs.declared.modes.Mode.{Mode}
+use Rattle.f2_model.specs.declared.modes.Mode.TheVariants.{Shut, Mounting, Up}
+use Rattle.f2_model.specs.Step.{Faults, Turn, Step}
+use Rattle.f2_model.specs.declared.events.Event.{Event}
 use Rattle.f2_model.specs.declared.bounds.Limits.{Limits}
 use Rattle.f2_model.specs.declared.replies.Plan.{Plan}
 use Rattle.f2_model.specs.declared.rows.Row.{Row}
 use Rattle.f2_model.specs.declared.rows.Kind.TheVariants.{Regular}
+use Rattle.f2_laws.specs.Flights.{Flights, IsFrozen}
 use Rattle.f2_held.specs.Recovered.{IsOneOf}
 use Rattle.f2_room_laws.specs.SoundTrees.{IsSoundTree}
 use Rattle.f2_room_laws.specs.Marking.{RowsHaveRoom}
-
--- calls in flight by their seats
-abbrev pub Flights : Type 0
-Flights = map.FinMap nat_cmp Flight
-
--- an fsync of a file is in flight
-abbrev pub IsFrozen : Flights → ℕ → Type 0
-IsFrozen flights ino = (seat : ℕ) × ((stage : Stage) × (map.get flights seat ≡ Some (InFsync ino stage)))
 
 -- a file in fsync: its row is a regular file's, the base has its directory, and no other row of a rolled tree has its name there
 pub record IsReady (live base tree : Rows) (ino : ℕ) : Type 0 where
@@ -67,7 +62,7 @@ pub record IsSoundState (limits : Limits) (state : State) : Type 0 where
 
 -- a state of which nothing is known but that a mount finds a sound tree is sound
 abbrev pub InitialIsSound : Type 0
-InitialIsSound = (limits : Limits) (base : Rows) (marks : List Mark) → IsSoundTree limits (rolled base marks) → IsSoundState limits (initial base marks)
+InitialIsSound = (limits : Limits) (meaning : Meaning) → IsSoundTree limits (rolled meaning.base meaning.marks) → IsSoundState limits (initial meaning)
 
 -- each event leaves a sound state sound
 abbrev pub EventsKeepStatesSound : Type 0

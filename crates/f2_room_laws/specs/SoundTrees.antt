@@ -1,12 +1,11 @@
 -- Trees that an image can hold, and the tree of an image that was just made.
-use Rattle.std.specs.Prelude.{◌≡◌, ℕ, ◌<◌, ◌≤◌, [], Some}
+use Rattle.std.specs.Prelude.{◌≡◌, ℕ, ◌<◌, ◌≤◌, Some}
 use Rattle.std.specs.FinMap as map
 use Rattle.f2_format.specs.Geometry.{Extent, IsGeometry, node_third, nid_limit}
-use Rattle.f2_model.specs.Tree.{Rows, ROOT, IsGoodTree}
+use Rattle.f2_model.specs.Tree.{Rows, ROOT, root_alone, IsGoodTree}
 use Rattle.f2_model.specs.Count.{nodes_of_tree, data_of_tree}
 use Rattle.f2_model.specs.declared.bounds.Limits.{Limits}
 use Rattle.f2_model.specs.declared.rows.Row.{Row}
-use Rattle.f2_model.specs.declared.rows.Kind.TheVariants.{Directory}
 
 -- a number that a row can have: the root's or one above it, as far as the node address table goes
 abbrev pub IsNumber : Limits → ℕ → Type 0
@@ -18,13 +17,6 @@ pub record IsSoundTree (limits : Limits) (tree : Rows) : Type 0 where
   pub numbers : (ino : ℕ) (row : Row) → map.get tree ino ≡ Some row → IsNumber limits ino
   pub nodes : nodes_of_tree tree ≤ limits.nodes
   pub data_blocks : data_of_tree tree ≤ limits.data_blocks
-
--- the tree of the root alone
-abbrev pub root_row : Row
-root_row = record { ino = ROOT; kind = Directory; parent = ROOT; name = []; size = 0; pages = map.empty }
-
-abbrev pub bare_tree : Rows
-bare_tree = map.insert map.empty ROOT root_row
 
 -- there is a node for the root, and a number
 pub record HasRoomForRoot (limits : Limits) : Type 0 where
@@ -42,4 +34,4 @@ GeometriesHaveRoomForRoot =
 
 -- and then the tree of the root alone is sound
 abbrev pub BareTreeIsSound : Type 0
-BareTreeIsSound = (limits : Limits) → HasRoomForRoot limits → IsSoundTree limits bare_tree
+BareTreeIsSound = (limits : Limits) → HasRoomForRoot limits → IsSoundTree limits root_alone

@@ -12,14 +12,18 @@
 //! forward ([`marks_come_in_well`]), since what was held for it bounds every tree that recovery makes of
 //! the same rows. And every event, also one whose write or flush fails, keeps what that asks
 //! ([`events_keep_states_sound`]): `IsSoundState` in `specs/SoundStates.antt` says what holds of each state.
+//!
+//! And as long as a file is in fsync, the row that calls see of it stays ([`rows_stay_in_fsync`]).
 #![tactic(auto)]
 
 mod marking;
 mod running;
 mod sound_states;
 mod sound_trees;
+mod staying;
 
 pub use marking::marks_come_in_well;
 pub use running::what_may_remain_is_sound;
 pub use sound_states::events_keep_states_sound;
 pub use sound_trees::bare_tree_is_sound;
+pub use staying::rows_stay_in_fsync;

@@ -1,14 +1,14 @@
 -- What the tests of a state say of its seats.
 use Rattle.std.proofs.Common.{◌≡◌, inl, inr, ℕ, Bool, true, false, cond, List, [], ◌∷◌, refl, sym, ap, ◌∙◌, true≢false}
-use Rattle.std.specs.Prelude.{Some, None}
+use Rattle.std.specs.Prelude.{Some, None, if◌then◌else◌}
 use Rattle.std.specs.List.{filter}
 use Rattle.std.specs.FinMap as map
 use Rattle.std.proofs.lemmas.Bool.{eq-eqb}
 use Rattle.f2_model.specs.State.{State, Flight, InFsync, InCheck}
-use Rattle.f2_model.specs.Step.{first_key, least_in_flight, is_check, freezes, checking_seat, freezing_seat}
+use Rattle.f2_model.specs.Step.{first_key, least_in_flight, is_check, freezes, checking_seat, barring_seat, freezing_seat}
 use Rattle.f2_model.specs.declared.replies.Plan.{Plan}
-use Rattle.f2_room_laws.specs.SoundStates.{IsFrozen}
-use Rattle.f2_room_laws.proofs.Members.{Has, entry_has}
+use Rattle.f2_laws.specs.Flights.{IsFrozen}
+use Rattle.f2_laws.proofs.Listed.{Has, entry_has}
 
 no_key : (es : List (ℕ × Flight)) → first_key es ≡ None → (e : ℕ × Flight) → Has e es → ⊥
 no_key [] none e h = h
@@ -42,3 +42,11 @@ not_frozen state ino none frozen =
     let e = entry_has state.flights frozen.0 flight frozen.1.1 in
     let fails = none_kept (λ one. freezes ino one.1) (map.entries state.flights) none e.0 e.1 in
     true≢false (sym (eq-eqb ino ino refl) ∙ sym (ap (freezes ino) e.2) ∙ fails)
+
+-- where no seat keeps one from beginning a call, no checkpoint is in flight
+pub unbarred : (state : State) (seat : ℕ) → barring_seat state seat ≡ None → checking_seat state ≡ None
+unbarred state seat none = by_own (map.contains_key state.flights seat) none
+  where
+    by_own : (b : Bool) → (if b then Some seat else checking_seat state) ≡ None → checking_seat state ≡ None
+    by_own true e = absurd (cc)
+    by_own false e = e

@@ -1,16 +1,25 @@
--- Calls in flight that come and go, and what a mode asks.
-use Rattle.std.proofs.Common.{◌≡◌, ◌≢◌, ◌⊎◌, inl, inr, ℕ, true, false, refl, sym, ap, subst, ◌∙◌, true≢false}
+-- Calls in flight that come and go.
+use Rattle.std.proofs.Common.{◌≡◌, ◌≢◌, ◌⊎◌, inl, inr, ℕ, sym, ap, subst, ◌∙◌}
 use Rattle.std.specs.Prelude.{Option, Some}
 use Rattle.std.specs.Ordering.{nat_cmp}
 use Rattle.std.specs.FinMap as map
-use Rattle.f2_model.specs.State.{Mode, Shut, Mounting, Up, Stage, Flight, InFsync, InCheck}
-use Rattle.f2_model.specs.Step.{is_up, is_shut}
+use Rattle.f2_model.specs.State.{Progress, Flight, InFsync, InCheck}
 use Rattle.f2_model.specs.declared.replies.Plan.{Plan}
+use Rattle.f2_laws.specs.Flights.{Flights, IsFrozen}
 use Rattle.f2_laws.proofs.Maps.{get_put, get_put-other, get_taken, get_taken-other}
 use Rattle.f2_laws.proofs.Walks.{some_same, some_none}
 use Rattle.f2_laws.proofs.Places.{same_or_other}
-use Rattle.f2_room_laws.specs.SoundStates.{Flights, IsFrozen, InMode}
-use Rattle.f2_room_laws.proofs.Fsyncs.{frozen_more}
+
+-- the files in fsync once one more is
+pub frozen_more : (flights : Flights) (seat ino : ℕ) (progress : Progress) (at : ℕ) → IsFrozen (map.insert flights seat (InFsync ino progress)) at → (at ≡ ino) ⊎ IsFrozen flights at
+frozen_more flights seat ino progress at frozen = by_seat (same_or_other frozen.0 seat)
+  where
+    one_ino : (i j : ℕ) (a b : Progress) → ◌≡◌ {A = Option Flight} (Some (InFsync i a)) (Some (InFsync j b)) → j ≡ i
+    one_ino i j a b e = cc
+
+    by_seat : (frozen.0 ≡ seat) ⊎ (frozen.0 ≢ seat) → (at ≡ ino) ⊎ IsFrozen flights at
+    by_seat (inl same) = inl (one_ino ino at progress frozen.1.0 (sym (get_put flights seat (InFsync ino progress)) ∙ ap (λ s. map.get (map.insert flights seat (InFsync ino progress)) s) (sym same) ∙ frozen.1.1))
+    by_seat (inr other) = inr (frozen.0, (frozen.1.0, sym (get_put-other flights seat (InFsync ino progress) frozen.0 other) ∙ frozen.1.1))
 
 -- a checkpoint in flight is alone
 abbrev pub Alone : Flights → Type 0
@@ -20,8 +29,8 @@ Alone flights = (seat other : ℕ) (plan : Plan) (flight : Flight) → map.get f
 abbrev pub Idle : Flights → Type 0
 Idle flights = (ino : ℕ) → IsFrozen flights ino → ⊥
 
-fsync_no_check : (ino : ℕ) (stage : Stage) (plan : Plan) → ◌≡◌ {A = Option Flight} (Some (InFsync ino stage)) (Some (InCheck plan)) → ⊥
-fsync_no_check ino stage plan e = cc
+pub fsync_no_check : (ino : ℕ) (progress : Progress) (plan : Plan) → ◌≡◌ {A = Option Flight} (Some (InFsync ino progress)) (Some (InCheck plan)) → ⊥
+fsync_no_check ino progress plan e = cc
 
 module _ (flights : Flights) (seat : ℕ) where
   -- what a seat has after a call of a seat came
@@ -54,11 +63,11 @@ module _ (flights : Flights) (seat : ℕ) where
   alone_left alone at other plan one check found = alone at other plan one (after_left at (InCheck plan) check).1 (after_left other one found).1
 
   -- an fsync begins where no checkpoint is in flight
-  pub alone_fsync : (ino : ℕ) (stage : Stage) → ((at : ℕ) (plan : Plan) → map.get flights at ≡ Some (InCheck plan) → ⊥) → Alone (map.insert flights seat (InFsync ino stage))
-  alone_fsync ino stage none at other plan one check found = by_seat (after_put (InFsync ino stage) at (InCheck plan) check)
+  pub alone_fsync : (ino : ℕ) (progress : Progress) → ((at : ℕ) (plan : Plan) → map.get flights at ≡ Some (InCheck plan) → ⊥) → Alone (map.insert flights seat (InFsync ino progress))
+  alone_fsync ino progress none at other plan one check found = by_seat (after_put (InFsync ino progress) at (InCheck plan) check)
     where
-      by_seat : ((at ≡ seat) × (InCheck plan ≡ InFsync ino stage)) ⊎ ((at ≢ seat) × (map.get flights at ≡ Some (InCheck plan))) → other ≡ at
-      by_seat (inl same) = absurd (fsync_no_check ino stage plan (ap (λ (f : Flight). Some f) (sym same.1)))
+      by_seat : ((at ≡ seat) × (InCheck plan ≡ InFsync ino progress)) ⊎ ((at ≢ seat) × (map.get flights at ≡ Some (InCheck plan))) → other ≡ at
+      by_seat (inl same) = absurd (fsync_no_check ino progress plan (ap (λ (f : Flight). Some f) (sym same.1)))
       by_seat (inr before) = absurd (none at plan before.1)
 
   -- a checkpoint begins where nobody is in flight
@@ -73,12 +82,12 @@ module _ (flights : Flights) (seat : ℕ) where
       seat_of s f found = by_seat s f (after_put (InCheck plan) s f found)
 
   -- an fsync in flight goes on to another part
-  module _ (ino : ℕ) (stage next : Stage) (there : map.get flights seat ≡ Some (InFsync ino stage)) where
+  module _ (ino : ℕ) (progress next : Progress) (there : map.get flights seat ≡ Some (InFsync ino progress)) where
     pub frozen_part : (at : ℕ) → IsFrozen (map.insert flights seat (InFsync ino next)) at → IsFrozen flights at
     frozen_part at frozen = by_seat (frozen_more flights seat ino next at frozen)
       where
         by_seat : (at ≡ ino) ⊎ IsFrozen flights at → IsFrozen flights at
-        by_seat (inl same) = subst (IsFrozen flights) (sym same) (seat, (stage, there))
+        by_seat (inl same) = subst (IsFrozen flights) (sym same) (seat, (progress, there))
         by_seat (inr before) = before
 
     pub alone_part : Alone flights → Alone (map.insert flights seat (InFsync ino next))
@@ -86,7 +95,7 @@ module _ (flights : Flights) (seat : ℕ) where
       where
         by_seat : ((at ≡ seat) × (InCheck plan ≡ InFsync ino next)) ⊎ ((at ≢ seat) × (map.get flights at ≡ Some (InCheck plan))) → ((other ≡ seat) × (one ≡ InFsync ino next)) ⊎ ((other ≢ seat) × (map.get flights other ≡ Some one)) → other ≡ at
         by_seat (inl same) last = absurd (fsync_no_check ino next plan (ap (λ (f : Flight). Some f) (sym same.1)))
-        by_seat (inr before) (inl same) = alone at other plan (InFsync ino stage) before.1 (ap (λ s. map.get flights s) same.0 ∙ there)
+        by_seat (inr before) (inl same) = alone at other plan (InFsync ino progress) before.1 (ap (λ s. map.get flights s) same.0 ∙ there)
         by_seat (inr before) (inr still) = alone at other plan one before.1 still.1
 
   -- a checkpoint leaves, and nobody is in flight
@@ -98,25 +107,3 @@ module _ (flights : Flights) (seat : ℕ) where
 -- nobody is in flight where a volume was just found, but its checkpoint
 pub nobody_yet : (at : ℕ) (one : Flight) → map.get {R = nat_cmp} map.empty at ≡ Some one → ⊥
 nobody_yet at one found = some_none (sym found ∙ map.get-empty nat_cmp at)
-
--- what a mode asks is told again
-pub in_mode : (mode : Mode) (idle idle_after rolling rolling_after : Type 0) → (idle → idle_after) → (rolling → rolling_after) → InMode mode idle rolling → InMode mode idle_after rolling_after
-in_mode Shut idle idle_after rolling rolling_after f g h = tt
-in_mode Mounting idle idle_after rolling rolling_after f g h = f h
-in_mode Up idle idle_after rolling rolling_after f g h = g h
-
-pub where_up : (mode : Mode) (idle rolling : Type 0) → is_up mode ≡ true → InMode mode idle rolling → rolling
-where_up Shut idle rolling up h = absurd (true≢false (sym up))
-where_up Mounting idle rolling up h = absurd (true≢false (sym up))
-where_up Up idle rolling up h = h
-
-pub put_up : (mode : Mode) (idle rolling : Type 0) → is_up mode ≡ true → rolling → InMode mode idle rolling
-put_up Shut idle rolling up h = absurd (true≢false (sym up))
-put_up Mounting idle rolling up h = absurd (true≢false (sym up))
-put_up Up idle rolling up h = h
-
--- a volume that isn't closed and has a file in fsync is open
-pub up_in_fsync : (mode : Mode) (idle rolling : Type 0) → is_shut mode ≡ false → (idle → ⊥) → InMode mode idle rolling → is_up mode ≡ true
-up_in_fsync Shut idle rolling open_now busy h = absurd (true≢false open_now)
-up_in_fsync Mounting idle rolling open_now busy h = absurd (busy h)
-up_in_fsync Up idle rolling open_now busy h = refl
