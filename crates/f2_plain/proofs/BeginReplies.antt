@@ -9,7 +9,8 @@ use Rattle.f2_model.specs.declared.requests.Request.TheVariants.{Create, Mkdir, 
 use Rattle.f2_model.specs.declared.replies.Reply.{Reply}
 use Rattle.f2_model.specs.declared.replies.Reply.TheVariants as reply
 use Rattle.f2_model.specs.Tree.{Rows, ROOT, is_directory, child, or_no_entry, walked, walk, parent_path}
-use Rattle.f2_model.specs.Call.{refusal, effect, answer, space_refusal, first_refusal, refusal_of, to_directory, walk_parent, walk_refusal, bytes_told, names_told, has_bad_name, names_directory, name_is_there, has_entries, is_too_big}
+use Rattle.f2_model.specs.Call.{refusal, effect, answer, space_refusal, refusal_of, to_directory, walk_parent, walk_refusal, bytes_told, names_told, has_bad_name, names_directory, name_is_there, has_entries, is_too_big}
+use Rattle.f2_model.specs.Lists.{first_some}
 use Rattle.f2_model.specs.Count.{nodes_of_tree, data_of_tree}
 use Rattle.f2_model.specs.declared.replies.Space.TheVariants.{Node, Data}
 use Rattle.f2_model.specs.Step.{replied}
@@ -54,7 +55,7 @@ plain_end : (end : Result Row Reply) → EndsPlainly end → ArePlain (refusal_o
 plain_end (Ok row) plain = tt
 plain_end (Err refused) plain = plain
 
-plain_first : (o : Option Reply) (rest : List (Option Reply)) → ArePlain o → ArePlain (first_refusal rest) → ArePlain (first_refusal (o ∷ rest))
+plain_first : (o : Option Reply) (rest : List (Option Reply)) → ArePlain o → ArePlain (first_some rest) → ArePlain (first_some (o ∷ rest))
 plain_first None rest one others = others
 plain_first (Some refused) rest one others = one
 

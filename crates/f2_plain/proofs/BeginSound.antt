@@ -12,15 +12,14 @@ use Rattle.f2_model.specs.declared.replies.Reply.{Reply}
 use Rattle.f2_model.specs.Tree.{Rows, walk}
 use Rattle.f2_model.specs.Call.{refusal, effect, space_refusal}
 use Rattle.f2_model.specs.Fallback.{fallback}
-use Rattle.f2_model.specs.State.{State, with_rows, with_row, dirtied, touched, removed, marked_dirty}
-use Rattle.f2_model.specs.Step.{Turn, Serves, BeginsCheck, BeginsFsync, TakesEffect, ReadFails, adds_row, called, did, least_in_flight}
+use Rattle.f2_model.specs.State.{State, from_both_rows, from_row, dirtied, touched, removed, marked_dirty}
+use Rattle.f2_model.specs.Step.{Turn, Serves, BeginsCheck, BeginsFsync, TakesEffect, ReadFails, adds_row, called, told_at_once, least_in_flight, calm}
 use Rattle.f2_plain_calls.specs.Given.{MOST_SIZE, IsFitting}
 use Rattle.f2_plain_calls.proofs.Fitting.{fitting_after}
 use Rattle.f2_plain_state.specs.Seen.{Seen, after_turn}
 use Rattle.f2_plain.specs.Begins.{BeginsBy}
-use Rattle.f2_plain.specs.Choosing.{calm}
 use Rattle.f2_plain.specs.Sound.{IsSound, IsFittingMark}
-use Rattle.f2_plain.specs.declared.events.Choices.{Choices}
+use Rattle.f2_plain.specs.declared.choices.Choices.{Choices}
 use Rattle.f2_model.specs.declared.replies.Begun.{Begun}
 
 off_bool : (b : Bool) (P Q R : Type 0) → (P → R) → (Q → R) → MatchBool b P Q → R
@@ -41,12 +40,12 @@ pub record KeepsRest (old new : State) : Type 0 where
 keeps_same : (state : State) → KeepsRest state state
 keeps_same state = record { base = refl; pending = refl; marks = refl; acknowledged = refl }
 
-keeps_rows : (state : State) (before after : Result Row Reply) (next : Row → Row → State) → ((one other : Row) → KeepsRest state (next one other)) → KeepsRest state (with_rows state before after next)
+keeps_rows : (state : State) (before after : Result Row Reply) (next : Row → Row → State) → ((one other : Row) → KeepsRest state (next one other)) → KeepsRest state (from_both_rows state before after next)
 keeps_rows state (Ok one) (Ok other) next rest = rest one other
 keeps_rows state (Ok one) (Err refused) next rest = keeps_same state
 keeps_rows state (Err refused) after next rest = keeps_same state
 
-keeps_row : (state : State) (end : Result Row Reply) (next : Row → State) → ((row : Row) → KeepsRest state (next row)) → KeepsRest state (with_row state end next)
+keeps_row : (state : State) (end : Result Row Reply) (next : Row → State) → ((row : Row) → KeepsRest state (next row)) → KeepsRest state (from_row state end next)
 keeps_row state (Ok row) next rest = rest row
 keeps_row state (Err refused) next rest = keeps_same state
 
@@ -96,7 +95,7 @@ module _ (limits : Limits) (state : State) (fitting : IsFitting state.live) (siz
   fits_way passed (inr is) = fits_still _ refl (record { base = refl; pending = refl; marks = refl; acknowledged = refl }) is.1
 
   fits_at_once : refusal limits state.live request ≡ None
-      → MatchOption (space_refusal limits (effect state.live request limits.nids)) (TakesEffect limits state seat request turn ⊎ ReadFails calm state seat request turn) (λ refused. turn ≡ did state seat request refused [] state)
+      → MatchOption (space_refusal limits (effect state.live request limits.nids)) (TakesEffect limits state seat request turn ⊎ ReadFails calm state seat request turn) (λ refused. turn ≡ told_at_once state seat request refused [] state)
       → Fits state turn
   fits_at_once passed = off_option (space_refusal limits (effect state.live request limits.nids)) _ (Fits state turn) _ (fits_way passed) (λ refused. fits_still _ refl (record { base = refl; pending = refl; marks = refl; acknowledged = refl }))
 
@@ -115,7 +114,7 @@ fits_served limits state seat Sync turn fitting size passed is = fits_check limi
 
 -- a machine stays sound when a call is served
 pub served_sound : (choices : Choices) (old new : Seen) (seat : ℕ) (request : Request) (begun : Begun) → IsSound old → refusal old.limits old.state.live request ≡ None
-    → BeginsBy choices old new begun (Serves old.limits calm old.state seat request) → IsSound new
+    → BeginsBy choices old new request begun (Serves old.limits calm old.state seat request) → IsSound new
 served_sound choices old new seat request begun sound passed by =
     let fits = fits_served old.limits old.state seat request by.turn sound.live sound.size passed by.is in
     subst IsSound (sym by.after) (record {
@@ -128,6 +127,6 @@ served_sound choices old new seat request begun sound passed by =
     })
 
 pub sound_after : {E : Type 0} (choices : Choices) (old new : Seen) (seat : ℕ) (request : Request) (result : Result Begun E) → IsSound old → refusal old.limits old.state.live request ≡ None
-    → IfOk result (λ begun. BeginsBy choices old new begun (Serves old.limits calm old.state seat request)) → OnErr result (new ≡ old) → IsSound new
+    → IfOk result (λ begun. BeginsBy choices old new request begun (Serves old.limits calm old.state seat request)) → OnErr result (new ≡ old) → IsSound new
 sound_after choices old new seat request (Ok begun) sound passed by same = served_sound choices old new seat request begun sound passed by
 sound_after choices old new seat request (Err error) sound passed by same = subst IsSound (sym same) sound

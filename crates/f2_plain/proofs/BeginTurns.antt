@@ -9,6 +9,8 @@ use Rattle.f2_model.specs.declared.bounds.Limits.{Limits}
 use Rattle.f2_model.specs.declared.rows.Row.{Row}
 use Rattle.f2_model.specs.declared.requests.Request.{Request}
 use Rattle.f2_model.specs.declared.requests.Request.TheVariants.{Create, Mkdir, Write, Truncate, Unlink, Rmdir, Rename, Read, List as ListNames, Fsync, Sync}
+use Rattle.f2_model.specs.declared.events.Event.TheVariants.{Begin}
+use Rattle.f2_model.specs.declared.events.Answer.TheVariants.{Began}
 use Rattle.f2_model.specs.declared.replies.Begun.{Begun}
 use Rattle.f2_model.specs.declared.replies.Begun.TheVariants.{Going, Replied}
 use Rattle.f2_model.specs.declared.replies.Plan.{Plan}
@@ -21,15 +23,15 @@ use Rattle.f2_model.specs.declared.histories.Entry.TheVariants as entry
 use Rattle.f2_model.specs.Tree.{Rows, walk}
 use Rattle.f2_model.specs.Call.{refusal, effect, answer, space_refusal}
 use Rattle.f2_model.specs.Fallback.{fallback}
-use Rattle.f2_model.specs.State.{State, dirtied, touched, removed, InFsync, InCheck, InPages}
-use Rattle.f2_model.specs.Step.{Event, Begin, Began, Turn, Step, StepBegin, Serves, BeginsCheck, BeginsFsync, TakesEffect, MOST_ENTRIES, is_up, barring_seat, freezing, least_in_flight, adds_row, called, did, replied, turned, unchanged, outcome_of}
+use Rattle.f2_model.specs.State.{State, dirtied, touched, removed, InFsync, fresh_progress, number_of}
+use Rattle.f2_model.specs.Step.{Turn, Step, IsSeat, calm, checking, StepBegin, Serves, BeginsCheck, BeginsFsync, TakesEffect, MOST_ENTRIES, is_up, barring_seat, freezing, least_in_flight, adds_row, called, told_at_once, replied, turn_with, unchanged, outcome_of}
 use Rattle.f2_laws.specs.Choice.{tells_failure}
 use Rattle.f2_laws.specs.Room.{IsLeastFreeIno}
 use Rattle.f2_plain_state.specs.Seen.{Seen, told, after_turn}
 use Rattle.f2_plain_state.specs.declared.calls.Call.{Call}
-use Rattle.f2_plain.specs.Begins.{BeginsBy, ServesAtOnce, TookEffect, both_rows, file_to_sync, pages_changed}
-use Rattle.f2_plain.specs.Choosing.{ComesTo, calm}
-use Rattle.f2_plain.specs.declared.events.Choices.{Choices}
+use Rattle.f2_plain.specs.Begins.{BeginsBy, ServesAtOnce, TookEffect, both_rows, file_to_sync, pages_changed, rows_changed}
+use Rattle.f2_plain.specs.Choosing.{ComesTo, blocks_after}
+use Rattle.f2_plain.specs.declared.choices.Choices.{Choices}
 use Rattle.f2_plain.proofs.BeginReplies.{IsPlain, plain_answer}
 
 -- a choice by a test, and by what there is, at a known answer
@@ -67,63 +69,63 @@ still old told = λ i. record old {
 
 module _ (choices : Choices) (old new : Seen) (seat : ℕ) (request : Request) where
   -- a call that is answered and leaves no entry
-  pub answered_only : (Is : Turn → Type 0) (told : Reply) → IsPlain told → Is (unchanged old.state (replied told)) → BeginsBy choices old old (Replied told) Is
+  pub answered_only : (Is : Turn → Type 0) (told : Reply) → IsPlain told → Is (unchanged old.state (replied told)) → BeginsBy choices old old request (Replied told) Is
   answered_only Is told plain is = record {
     turn = unchanged old.state (replied told);
     is = is;
     faultless = plain;
-    chosen = none_chosen (IsLeastFreeIno old.limits old.state);
+    chosen = λ adds. none_chosen (IsLeastFreeIno old.limits old.state);
     told = refl;
     after = still old told;
   }
 
   -- a call that is answered and changes nothing
-  pub did_only : (Is : Turn → Type 0) (reply : Reply) → IsPlain reply → Is (did old.state seat request reply [] old.state) → new ≡ after_turn old (did old.state seat request reply [] old.state)
-      → BeginsBy choices old new (Replied reply) Is
+  pub did_only : (Is : Turn → Type 0) (reply : Reply) → IsPlain reply → Is (told_at_once old.state seat request reply [] old.state) → new ≡ after_turn old (told_at_once old.state seat request reply [] old.state)
+      → BeginsBy choices old new request (Replied reply) Is
   did_only Is reply plain is after = record {
-    turn = did old.state seat request reply [] old.state;
+    turn = told_at_once old.state seat request reply [] old.state;
     is = is;
     faultless = plain;
-    chosen = none_chosen (IsLeastFreeIno old.limits old.state);
+    chosen = λ adds. none_chosen (IsLeastFreeIno old.limits old.state);
     told = refl;
     after = after;
   }
 
-  pub did_told : {E : Type 0} (result : Result Begun E) (Is : Turn → Type 0) (reply : Reply) → IsPlain reply → Is (did old.state seat request reply [] old.state)
-      → IfOk result (λ begun. begun ≡ Replied reply) → OnOk result (new ≡ after_turn old (did old.state seat request reply [] old.state))
-      → IfOk result (λ begun. BeginsBy choices old new begun Is)
-  did_told (Ok begun) Is reply plain is replied after = subst (λ one. BeginsBy choices old new one Is) (sym replied) (did_only Is reply plain is after)
+  pub did_told : {E : Type 0} (result : Result Begun E) (Is : Turn → Type 0) (reply : Reply) → IsPlain reply → Is (told_at_once old.state seat request reply [] old.state)
+      → IfOk result (λ begun. begun ≡ Replied reply) → OnOk result (new ≡ after_turn old (told_at_once old.state seat request reply [] old.state))
+      → IfOk result (λ begun. BeginsBy choices old new request begun Is)
+  did_told (Ok begun) Is reply plain is replied after = subst (λ one. BeginsBy choices old new request one Is) (sym replied) (did_only Is reply plain is after)
   did_told (Err error) Is reply plain is replied after = tt
 
   -- a checkpoint that begins
-  pub check_begun : (of : Plan) → of ≢ plan.Roll → least_in_flight old.state ≡ None
-      → new ≡ record (told old (entry.Begin seat request ∷ entry.CpBegin seat of ∷ []) [] (record old.state { flights = map.insert old.state.flights seat (InCheck of) })) { blocks = choices.blocks }
-      → BeginsBy choices old new (Going of) (BeginsCheck old.state seat request of)
-  check_begun plan.Roll other none after = absurd (other refl)
-  check_begun plan.Sync other none after = record {
-    turn = turned (Began (Going plan.Sync)) (entry.Begin seat request ∷ entry.CpBegin seat plan.Sync ∷ []) [] (record old.state { flights = map.insert old.state.flights seat (InCheck plan.Sync) });
-    is = on_none (least_in_flight old.state) _ _ none refl;
-    faultless = refl;
-    chosen = none_chosen (IsLeastFreeIno old.limits old.state);
-    told = refl;
-    after = after;
-  }
-  check_begun (plan.Cp reason) other none after = record {
-    turn = turned (Began (Going (plan.Cp reason))) (entry.Begin seat request ∷ entry.CpBegin seat (plan.Cp reason) ∷ []) [] (record old.state { flights = map.insert old.state.flights seat (InCheck (plan.Cp reason)) });
-    is = on_none (least_in_flight old.state) _ _ none refl;
-    faultless = refl;
-    chosen = none_chosen (IsLeastFreeIno old.limits old.state);
-    told = refl;
-    after = after;
-  }
+  begun_check : (of : Plan) → adds_row request ≡ false → least_in_flight old.state ≡ None → (blocks : ℕ) → blocks_after choices old (Began (Going of)) ≡ blocks
+      → new ≡ record (told old (entry.Begin seat request ∷ entry.CpBegin seat of ∷ []) (number_of old.state.format ∷ []) (checking old.state seat of)) { blocks = blocks }
+      → BeginsBy choices old new request (Going of) (BeginsCheck old.state seat request of)
+  begun_check of rowless none blocks left after =
+      let turn = turn_with (Began (Going of)) (entry.Begin seat request ∷ entry.CpBegin seat of ∷ []) (number_of old.state.format ∷ []) (checking old.state seat of) in
+      record {
+        turn = turn;
+        is = on_none (least_in_flight old.state) _ _ none refl;
+        faultless = refl;
+        chosen = λ adds. absurd (true≢false (sym adds ∙ rowless));
+        told = refl;
+        after = after ∙ ap (λ n. record (after_turn old turn) { blocks = n }) (sym left);
+      }
+
+  pub check_begun : (of : Plan) → of ≢ plan.Roll → adds_row request ≡ false → least_in_flight old.state ≡ None
+      → new ≡ record (told old (entry.Begin seat request ∷ entry.CpBegin seat of ∷ []) (number_of old.state.format ∷ []) (checking old.state seat of)) { blocks = choices.blocks }
+      → BeginsBy choices old new request (Going of) (BeginsCheck old.state seat request of)
+  check_begun plan.Roll other rowless none after = absurd (other refl)
+  check_begun plan.Sync other rowless none after = begun_check plan.Sync rowless none choices.blocks refl after
+  check_begun (plan.Cp reason) other rowless none after = begun_check (plan.Cp reason) rowless none choices.blocks refl after
 
   -- a turn of one kind is one of another
-  pub by_way : (begun : Begun) (Is Next : Turn → Type 0) → ((turn : Turn) → Is turn → Next turn) → BeginsBy choices old new begun Is → BeginsBy choices old new begun Next
+  pub by_way : (begun : Begun) (Is Next : Turn → Type 0) → ((turn : Turn) → Is turn → Next turn) → BeginsBy choices old new request begun Is → BeginsBy choices old new request begun Next
   by_way begun Is Next way by = record { turn = by.turn; is = way by.turn by.is; faultless = by.faultless; chosen = by.chosen; told = by.told; after = by.after }
 
   -- an event that is a turn with which a call begins
-  pub begun_comes : (begun : Begun) → BeginsBy choices old new begun (StepBegin old.limits calm old.state seat request) → ComesTo choices old new (Begin seat request) (Began begun)
-  begun_comes begun by = record { turn = by.turn; step = inl by.is; faultless = by.faultless; chosen = by.chosen; told = by.told; after = by.after }
+  pub begun_comes : (begun : Begun) → IsSeat seat → BeginsBy choices old new request begun (StepBegin old.limits calm old.state seat request) → ComesTo choices old new (Begin seat request) (Began begun)
+  begun_comes begun seated by = record { turn = by.turn; step = (seated, inl by.is); faultless = by.faultless; chosen = by.chosen; told = by.told; after = by.after }
 
 -- the value of an Ok
 ok_value : {A E : Type 0} → A → Result A E → A
@@ -138,32 +140,28 @@ Made old new seat request =
 abbrev Answered : Seen → Seen → ℕ → Request → Type 0
 Answered old new seat request = new ≡ told old (entry.Did seat request (outcome_of (answer old.state.live request)) ∷ []) [] (called old.state request 0)
 
--- what a call changes of the pages of a row that stands at the end of two walks
-pub changed_pages : (state : State) (request : Request) (before after : Result Row Reply) (one other : Row) (reached gone : List ℕ) → Some (one, other) ≡ both_rows before after → reached ≡ touched one request → gone ≡ removed one request
-    → dirtied state one other reached gone ≡ pages_changed state request before after
-changed_pages state request (Ok a) (Ok b) one other reached gone e is_reached is_gone =
-    let first : one ≡ a = ap (λ o. (unwrap_or {T = Row × Row} o (one, other)).0) e in
-    let second : other ≡ b = ap (λ o. (unwrap_or {T = Row × Row} o (one, other)).1) e in
-    λ i. dirtied state (first i) (second i) ((is_reached ∙ ap (λ row. touched row request) first) i) ((is_gone ∙ ap (λ row. removed row request) first) i)
-changed_pages state request (Ok a) (Err refused) one other reached gone e is_reached is_gone = absurd (none-some _ (sym e))
-changed_pages state request (Err refused) after one other reached gone e is_reached is_gone = absurd (none-some _ (sym e))
+-- what a call changes of the pages of a row, where the rows at the end of two walks are given
+pub changed_pages : (state : State) (request : Request) (before after : Result Row Reply) → rows_changed state request (both_rows before after) ≡ pages_changed state request before after
+changed_pages state request (Ok one) (Ok other) = refl
+changed_pages state request (Ok one) (Err refused) = refl
+changed_pages state request (Err refused) after = refl
 
 module _ (choices : Choices) (old new : Seen) (seat : ℕ) (request : Request) where
   -- an fsync that rolls forward, and one that makes a checkpoint
   pub roll_begun : (walked : Result Row Reply) (ino : ℕ) → Ok (ino, None) ≡ file_to_sync old.limits old.state walked
-      → new ≡ told old (entry.Begin seat request ∷ []) [] (record old.state { flights = map.insert old.state.flights seat (InFsync ino (record { part = InPages; place = 0 })) })
-      → BeginsBy choices old new (Going plan.Roll) (BeginsFsync old.limits old.state seat request walked)
+      → new ≡ told old (entry.Begin seat request ∷ []) [] (record old.state { flights = map.insert old.state.flights seat (InFsync ino fresh_progress) })
+      → BeginsBy choices old new request (Going plan.Roll) (BeginsFsync old.limits old.state seat request walked)
   unfolding ok_value
   roll_begun (Err refused) ino file after = absurd (cc)
   roll_begun (Ok row) ino file after =
       let same = ap (ok_value (ino, None)) file in
       record {
-        turn = turned (Began (Going plan.Roll)) (entry.Begin seat request ∷ []) [] (record old.state { flights = map.insert old.state.flights seat (InFsync row.ino (record { part = InPages; place = 0 })) });
+        turn = turn_with (Began (Going plan.Roll)) (entry.Begin seat request ∷ []) [] (record old.state { flights = map.insert old.state.flights seat (InFsync row.ino fresh_progress) });
         is = on_none (fallback old.limits old.state row) _ _ (sym (ap (λ pair. pair.1) same)) refl;
         faultless = refl;
-        chosen = none_chosen (IsLeastFreeIno old.limits old.state);
+        chosen = λ adds. none_chosen (IsLeastFreeIno old.limits old.state);
         told = refl;
-        after = subst (λ n. new ≡ told old (entry.Begin seat request ∷ []) [] (record old.state { flights = map.insert old.state.flights seat (InFsync n (record { part = InPages; place = 0 })) })) (ap (λ pair. pair.0) same) after;
+        after = subst (λ n. new ≡ told old (entry.Begin seat request ∷ []) [] (record old.state { flights = map.insert old.state.flights seat (InFsync n fresh_progress) })) (ap (λ pair. pair.0) same) after;
       }
 
   pub reason_way : (walked : Result Row Reply) (ino : ℕ) (reason : Reason) → Ok (ino, Some reason) ≡ file_to_sync old.limits old.state walked
@@ -175,9 +173,9 @@ module _ (choices : Choices) (old new : Seen) (seat : ℕ) (request : Request) w
       on_some (fallback old.limits old.state row) _ _ reason (sym (ap (λ pair. pair.1) same)) is
 
   pub stopped_way : (walked : Result Row Reply) (refused : Reply) → Err refused ≡ file_to_sync old.limits old.state walked
-      → BeginsFsync old.limits old.state seat request walked (did old.state seat request refused [] old.state)
+      → BeginsFsync old.limits old.state seat request walked (told_at_once old.state seat request refused [] old.state)
   stopped_way (Ok row) refused file = absurd (cc)
-  stopped_way (Err other) refused file = let same : refused ≡ other = cc in ap (λ one. did old.state seat request one [] old.state) same
+  stopped_way (Err other) refused file = let same : refused ≡ other = cc in ap (λ one. told_at_once old.state seat request one [] old.state) same
 
   pub stop_of : (walked : Result Row Reply) (refused : Reply) → Err refused ≡ file_to_sync old.limits old.state walked → walked ≡ Err refused
   stop_of (Ok row) refused file = absurd (cc)
@@ -186,26 +184,26 @@ module _ (choices : Choices) (old new : Seen) (seat : ℕ) (request : Request) w
   -- a call that takes effect at once
   pub effect_begun : (one : Reply) (outcome : Outcome) → space_refusal old.limits (effect old.state.live request old.limits.nids) ≡ None → one ≡ answer old.state.live request → outcome ≡ outcome_of one
       → TookEffect old new (record { seat = seat; request = request; outcome = outcome })
-      → BeginsBy choices old new (Replied one) (ServesAtOnce old.limits old.state seat request)
+      → BeginsBy choices old new request (Replied one) (ServesAtOnce old.limits old.state seat request)
   effect_begun one outcome room is_answer is_outcome took =
       let ended : outcome ≡ outcome_of (answer old.state.live request) = is_outcome ∙ ap outcome_of is_answer in
-      subst (λ told. BeginsBy choices old new (Replied told) (ServesAtOnce old.limits old.state seat request)) (sym is_answer)
+      subst (λ told. BeginsBy choices old new request (Replied told) (ServesAtOnce old.limits old.state seat request)) (sym is_answer)
       (by_row (adds_row request) refl (subst (λ end. TookEffect old new (record { seat = seat; request = request; outcome = end })) ended took))
     where
-      by_row : (b : Bool) → adds_row request ≡ b → MatchBool b (Made old new seat request) (Answered old new seat request) → BeginsBy choices old new (Replied (answer old.state.live request)) (ServesAtOnce old.limits old.state seat request)
+      by_row : (b : Bool) → adds_row request ≡ b → MatchBool b (Made old new seat request) (Answered old new seat request) → BeginsBy choices old new request (Replied (answer old.state.live request)) (ServesAtOnce old.limits old.state seat request)
       by_row true is made = record {
-        turn = did old.state seat request (answer old.state.live request) (made.0 ∷ []) (called old.state request made.0);
+        turn = told_at_once old.state seat request (answer old.state.live request) (made.0 ∷ []) (called old.state request made.0);
         is = on_none (space_refusal old.limits (effect old.state.live request old.limits.nids)) _ _ room (on_true (adds_row request) _ _ is (made.0, made.1.free, refl));
         faultless = plain_answer old.state.live request;
-        chosen = one_chosen (IsLeastFreeIno old.limits old.state) made.0 made.1;
+        chosen = λ adds. one_chosen (IsLeastFreeIno old.limits old.state) made.0 made.1;
         told = refl;
         after = made.2;
       }
       by_row false is after = record {
-        turn = did old.state seat request (answer old.state.live request) [] (called old.state request 0);
+        turn = told_at_once old.state seat request (answer old.state.live request) [] (called old.state request 0);
         is = on_none (space_refusal old.limits (effect old.state.live request old.limits.nids)) _ _ room (on_false (adds_row request) _ _ is refl);
         faultless = plain_answer old.state.live request;
-        chosen = none_chosen (IsLeastFreeIno old.limits old.state);
+        chosen = λ adds. none_chosen (IsLeastFreeIno old.limits old.state);
         told = refl;
         after = after;
       }
@@ -228,7 +226,7 @@ module _ (limits : Limits) (state : State) (seat : ℕ) (request : Request) (tur
   barred_step by up early barred is = on_false (not (is_up state.mode)) _ _ (ap not up) (on_false (nat_le MOST_ENTRIES state.entries) _ _ (is_above _ _ early) (on_some (barring_seat state seat) _ _ by barred is))
 
   pub refused_step : (refused : Reply) → is_up state.mode ≡ true → state.entries < MOST_ENTRIES → barring_seat state seat ≡ None → refusal limits state.live request ≡ Some refused
-      → turn ≡ did state seat request refused [] state → StepBegin limits calm state seat request turn
+      → turn ≡ told_at_once state seat request refused [] state → StepBegin limits calm state seat request turn
   refused_step refused up early free told is =
       on_false (not (is_up state.mode)) _ _ (ap not up) (on_false (nat_le MOST_ENTRIES state.entries) _ _ (is_above _ _ early) (on_none (barring_seat state seat) _ _ free
       (on_some (refusal limits state.live request) _ _ refused told is)))

@@ -8,9 +8,11 @@ use Rattle.std.specs.Borrow.{Bor}
 use Rattle.std.specs.Bool.{MatchBool}
 use Rattle.std.specs.Option.{unwrap_or}
 use Rattle.std.specs.FinMap as map
-use Rattle.f2_model.specs.State.{State, Flight, InFsync, InCheck, InPages, InNodes, Marked}
+use Rattle.f2_model.specs.State.{State, Flight, InFsync, InCheck, Part, InPages, InNodes, Marked, Progress, Drawn, DrawnNode, DrawnMark, in_nodes}
 use Rattle.f2_model.specs.Step as machine
-use Rattle.f2_model.specs.Step.{Turn, Stepped, StepGo, StepFlight}
+use Rattle.f2_model.specs.Step.{Turn, StepGo, StepFlight, StepPart, calm}
+use Rattle.f2_model.specs.declared.events.Answer.{Answer}
+use Rattle.f2_model.specs.declared.events.Answer.TheVariants.{Stepped}
 use Rattle.f2_model.specs.declared.rows.Row.{Row}
 use Rattle.f2_model.specs.declared.replies.Plan.{Plan}
 use Rattle.f2_model.specs.declared.replies.Plan.TheVariants as plans
@@ -19,13 +21,12 @@ use Rattle.f2_model.specs.declared.replies.Step.TheVariants as step
 use Rattle.f2_model.specs.declared.replies.Reply.TheVariants as reply
 use Rattle.f2_model.specs.declared.histories.Entry.TheVariants as entry
 use Rattle.f2_laws.specs.Choice.{tells_failure}
-use Rattle.f2_plain_state.specs.contracts.modes.Mode.{the_type}
-use Rattle.f2_plain_state.specs.declared.modes.Mode.{Mode}
-use Rattle.f2_plain_state.specs.declared.modes.Mode.TheVariants.{Shut, Mounting, Up}
-use Rattle.f2_plain_state.specs.Parts.{mode_of}
+use Rattle.f2_model.specs.contracts.modes.Mode.{the_type}
+use Rattle.f2_model.specs.declared.modes.Mode.{Mode}
+use Rattle.f2_model.specs.declared.modes.Mode.TheVariants.{Shut, Mounting, Up}
 use Rattle.f2_plain_state.specs.Seen.{Seen, told, after_turn}
-use Rattle.f2_plain.specs.declared.events.Choices.{Choices}
-use Rattle.f2_plain.specs.Choosing.{calm, blocks_after, AsLeft}
+use Rattle.f2_plain.specs.declared.choices.Choices.{Choices}
+use Rattle.f2_plain.specs.Choosing.{blocks_after, AsLeft}
 use Rattle.f2_plain.specs.Going.{IsAt, GoesTo}
 use Rattle.f2_plain.specs.Sound.{IsSound, IsFittingMark}
 
@@ -55,12 +56,12 @@ on_nothing None P Q is p = p
 on_nothing (Some x) P Q is p = absurd (true≢false is)
 
 -- whether a mode is one that is compared with
-pub up_told : (mode : Mode) → sameb the_type mode Up ≡ machine.is_up (mode_of mode)
+pub up_told : (mode : Mode) → sameb the_type mode Up ≡ machine.is_up mode
 up_told Shut = refl
 up_told Mounting = refl
 up_told Up = refl
 
-pub shut_told : (mode : Mode) → sameb the_type mode Shut ≡ machine.is_shut (mode_of mode)
+pub shut_told : (mode : Mode) → sameb the_type mode Shut ≡ machine.is_shut mode
 shut_told Shut = refl
 shut_told Mounting = refl
 shut_told Up = refl
@@ -85,7 +86,7 @@ went old new seat told_step turn row is calmly left after choices = record {
 }
 
 -- a turn that leaves no entry and no choice tells nothing
-pub rested : (old : Seen) (after : State) (answer : machine.Answer) → after_turn old (machine.turned answer [] [] after) ≡ record old { state = after }
+pub rested : (old : Seen) (after : State) (answer : Answer) → after_turn old (machine.turn_with answer [] [] after) ≡ record old { state = after }
 rested old after answer = λ i. record old { state = record after { entries = add-zero after.entries i }; entries = append-nil old.entries i; choices = append-nil old.choices i }
 
 module _ (old new : Seen) (seat : ℕ) where
@@ -94,36 +95,62 @@ module _ (old new : Seen) (seat : ℕ) where
       (on_none (map.get old.state.flights seat) _ _ is refl) refl refl tt (λ choices. same ∙ sym (rested old old.state (Stepped step.None)))
 
   pub closed-GoesTo : (flight : Flight) → map.get old.state.flights seat ≡ Some flight → machine.is_shut old.state.mode ≡ true
-      → new ≡ record old { state = machine.left old.state seat } → GoesTo old new seat (step.Replied reply.Closed)
-  closed-GoesTo flight is shut after = went old new seat (step.Replied reply.Closed) (machine.turned (Stepped (step.Replied reply.Closed)) [] [] (machine.left old.state seat))
+      → new ≡ record old { state = machine.without_call old.state seat } → GoesTo old new seat (step.Replied reply.Closed)
+  closed-GoesTo flight is shut after = went old new seat (step.Replied reply.Closed) (machine.turn_with (Stepped (step.Replied reply.Closed)) [] [] (machine.without_call old.state seat))
       (on_some (map.get old.state.flights seat) _ _ flight is (on_true (machine.is_shut old.state.mode) _ _ shut refl)) refl refl tt
-      (λ choices. after ∙ sym (rested old (machine.left old.state seat) (Stepped (step.Replied reply.Closed))))
+      (λ choices. after ∙ sym (rested old (machine.without_call old.state seat) (Stepped (step.Replied reply.Closed))))
+
+-- a step of an fsync that has no position open, by the row of its part
+at_part : (state : State) (seat ino : ℕ) (part : Part) (turn : Turn) (at : IsAt state seat ino part) → StepPart calm state seat ino at.progress part turn → StepGo calm state seat turn
+at_part state seat ino part turn at row =
+    in_flight state seat (InFsync ino at.progress) turn at.flight at.unshut
+    (on_none at.progress.slot _ _ at.written (subst (λ p. StepPart calm state seat ino at.progress p turn) (sym at.part_is) row))
 
 module _ (old new : Seen) (seat ino : ℕ) where
   pub page-GoesTo : (page : ℕ) → IsAt old.state seat ino InPages → machine.least_of old.state.dirty_pages ino ≡ Some page
       → new ≡ told old (entry.WrotePage ino page ∷ []) [] (machine.page_written old.state ino page) → GoesTo old new seat (step.Page page)
   page-GoesTo page at least after = went old new seat (step.Page page) _
-      (in_flight old.state seat _ _ at.flight at.unshut (on_some (machine.least_of old.state.dirty_pages ino) _ _ page least (inl refl))) refl refl tt (λ choices. after)
+      (at_part old.state seat ino InPages _ at (on_some (machine.least_of old.state.dirty_pages ino) _ _ page least (inl refl))) refl refl tt (λ choices. after)
 
   pub flushed-GoesTo : IsAt old.state seat ino InPages → machine.least_of old.state.dirty_pages ino ≡ None
-      → new ≡ told old (entry.Flushed seat ∷ []) [] (machine.at_part old.state seat ino InNodes 0) → GoesTo old new seat step.Flushed
+      → new ≡ told old (entry.Flushed seat ∷ []) [] (machine.with_progress old.state seat ino (in_nodes None)) → GoesTo old new seat step.Flushed
   flushed-GoesTo at none after = went old new seat step.Flushed _
-      (in_flight old.state seat _ _ at.flight at.unshut (on_none (machine.least_of old.state.dirty_pages ino) _ _ none (inl refl))) refl refl tt (λ choices. after)
+      (at_part old.state seat ino InPages _ at (on_none (machine.least_of old.state.dirty_pages ino) _ _ none (inl refl))) refl refl tt (λ choices. after)
 
-  pub node-GoesTo : (offset : ℕ) → IsAt old.state seat ino InNodes → machine.least_of old.state.dirty_nodes ino ≡ Some offset
-      → new ≡ told old (entry.WroteNode ino offset ∷ []) [] (machine.node_written old.state ino offset) → GoesTo old new seat (step.Node offset)
-  node-GoesTo offset at least after = went old new seat (step.Node offset) _
-      (in_flight old.state seat _ _ at.flight at.unshut (on_some (machine.least_of old.state.dirty_nodes ino) _ _ offset least (inl refl))) refl refl tt (λ choices. after)
+  pub node-GoesTo : (offset position : ℕ) → IsAt old.state seat ino InNodes → machine.least_of old.state.dirty_nodes ino ≡ Some offset → position ≡ old.state.node_writes
+      → new ≡ after_turn old (machine.node_drawn old.state seat ino offset) → GoesTo old new seat (step.Slot position)
+  node-GoesTo offset position at least drawn after = subst (λ p. GoesTo old new seat (step.Slot p)) (sym drawn)
+      (went old new seat (step.Slot old.state.node_writes) (machine.node_drawn old.state seat ino offset)
+      (at_part old.state seat ino InNodes _ at (on_some (machine.least_of old.state.dirty_nodes ino) _ _ offset least refl)) refl refl tt (λ choices. after))
 
-  pub mark-GoesTo : (row : Row) → IsAt old.state seat ino InNodes → machine.least_of old.state.dirty_nodes ino ≡ None → map.get old.state.live ino ≡ Some row
-      → new ≡ after_turn old (machine.marked old.state seat ino row) → GoesTo old new seat step.Mark
-  mark-GoesTo row at none there after = went old new seat step.Mark _
-      (in_flight old.state seat _ _ at.flight at.unshut (on_none (machine.least_of old.state.dirty_nodes ino) _ _ none (on_some (map.get old.state.live ino) _ _ row there (inl refl)))) refl refl tt (λ choices. after)
+  pub mark-GoesTo : (row : Row) (position : ℕ) → IsAt old.state seat ino InNodes → machine.least_of old.state.dirty_nodes ino ≡ None → map.get old.state.live ino ≡ Some row → position ≡ old.state.node_writes
+      → new ≡ after_turn old (machine.mark_drawn old.state seat ino row) → GoesTo old new seat (step.Slot position)
+  mark-GoesTo row position at none there drawn after = subst (λ p. GoesTo old new seat (step.Slot p)) (sym drawn)
+      (went old new seat (step.Slot old.state.node_writes) (machine.mark_drawn old.state seat ino row)
+      (at_part old.state seat ino InNodes _ at (on_none (machine.least_of old.state.dirty_nodes ino) _ _ none (on_some (map.get old.state.live ino) _ _ row there refl))) refl refl tt (λ choices. after))
 
-  pub roll-GoesTo : (place : ℕ) → map.get old.state.flights seat ≡ Some (InFsync ino (record { part = Marked; place = place })) → machine.is_shut old.state.mode ≡ false
-      → new ≡ after_turn old (machine.acknowledges old.state seat ino (record { part = Marked; place = place })) → GoesTo old new seat (step.Replied reply.Roll)
-  roll-GoesTo place flight unshut after = went old new seat (step.Replied reply.Roll) _
-      (in_flight old.state seat _ _ flight unshut (inl refl)) refl refl tt (λ choices. after)
+  module _ (progress : Progress) (flight : map.get old.state.flights seat ≡ Some (InFsync ino progress)) (unshut : machine.is_shut old.state.mode ≡ false) where
+    pub slot-GoesTo : (position : ℕ) (drawn : Drawn) → progress.slot ≡ Some (record { position = position; drawn = drawn })
+        → new ≡ record old { state = machine.with_progress old.state seat ino (record progress { slot = None }) } → GoesTo old new seat (machine.step_of drawn)
+    slot-GoesTo position (DrawnNode offset) open_slot after = went old new seat (step.Node offset) (machine.turn_with (Stepped (step.Node offset)) [] [] (machine.with_progress old.state seat ino (record progress { slot = None })))
+        (in_flight old.state seat (InFsync ino progress) _ flight unshut (on_some progress.slot _ _ (record { position = position; drawn = DrawnNode offset }) open_slot (inl refl))) refl refl tt
+        (λ choices. after ∙ sym (rested old (machine.with_progress old.state seat ino (record progress { slot = None })) (Stepped (step.Node offset))))
+    slot-GoesTo position DrawnMark open_slot after = went old new seat step.Mark (machine.turn_with (Stepped step.Mark) [] [] (machine.with_progress old.state seat ino (record progress { slot = None })))
+        (in_flight old.state seat (InFsync ino progress) _ flight unshut (on_some progress.slot _ _ (record { position = position; drawn = DrawnMark }) open_slot (inl refl))) refl refl tt
+        (λ choices. after ∙ sym (rested old (machine.with_progress old.state seat ino (record progress { slot = None })) (Stepped step.Mark)))
+
+    module _ (part : progress.part ≡ Marked) (written : progress.slot ≡ None) where
+      abbrev at_mark : IsAt old.state seat ino Marked
+      at_mark = record { progress = progress; flight = flight; part_is = part; written = written; unshut = unshut }
+
+      pub again-GoesTo : (position : ℕ) → machine.gap_below old.state progress.position ≡ Some position → new ≡ old → GoesTo old new seat (step.Again position)
+      again-GoesTo position gap same = went old new seat (step.Again position) (machine.unchanged old.state (Stepped (step.Again position)))
+          (at_part old.state seat ino Marked _ at_mark (on_some (machine.gap_below old.state progress.position) _ _ position gap refl)) refl refl tt
+          (λ choices. same ∙ sym (rested old old.state (Stepped (step.Again position))))
+
+      pub roll-GoesTo : machine.gap_below old.state progress.position ≡ None → new ≡ after_turn old (machine.acknowledges old.state seat ino progress) → GoesTo old new seat (step.Replied reply.Roll)
+      roll-GoesTo no_gap after = went old new seat (step.Replied reply.Roll) (machine.acknowledges old.state seat ino progress)
+          (at_part old.state seat ino Marked _ at_mark (on_none (machine.gap_below old.state progress.position) _ _ no_gap (inl refl))) refl refl tt (λ choices. after)
 
 -- the end of a checkpoint tells no failure
 no_failure : (plan : Plan) → tells_failure (Stepped (step.Replied (machine.reply_of_plan plan))) ≡ false
@@ -153,7 +180,7 @@ is_some-copied None = refl
 is_some-copied (Some x) = refl
 
 -- the state after a marked row joined the marks is sound
-pub marked-IsSound : (old new : Seen) (seat ino : ℕ) (row : Row) → IsSound old → map.get old.state.live ino ≡ Some row → new ≡ after_turn old (machine.marked old.state seat ino row) → IsSound new
+pub marked-IsSound : (old new : Seen) (seat ino : ℕ) (row : Row) → IsSound old → map.get old.state.live ino ≡ Some row → new ≡ after_turn old (machine.mark_drawn old.state seat ino row) → IsSound new
 marked-IsSound old new seat ino row sound there after = subst IsSound (sym after) (record {
   size = sound.size;
   live = sound.live;

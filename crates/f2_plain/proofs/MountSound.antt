@@ -1,17 +1,13 @@
 -- What a mount finds is sound.
 use Rattle.std.proofs.lemmas.Option.{none-some}
-use Rattle.std.proofs.Common.{ℕ, List, All, arith}
+use Rattle.std.proofs.Common.{ℕ, All, arith}
 use Rattle.std.specs.Prelude.{Result, Ok, Err, IfOk, OnOk, OnErr}
-use Rattle.f2_model.specs.Tree.{Rows}
-use Rattle.f2_model.specs.State.{State, Mark}
+use Rattle.f2_model.specs.State.{Meaning}
 use Rattle.f2_model.specs.Step.{found}
 use Rattle.f2_plain_calls.specs.Given.{IsFitting}
 use Rattle.f2_plain_state.specs.Seen.{Seen, after_turn}
-use Rattle.f2_plain.specs.declared.events.Extent.TheVariants.{Fewest, Most}
-use Rattle.f2_plain.specs.declared.events.Extent.{Extent}
-use Rattle.f2_plain.specs.Choosing.{marks_left}
 use Rattle.f2_plain.specs.Sound.{IsFittingMark, IsSound}
-use Rattle.f2_plain.proofs.MountRolls.{all_taken, rolled_fitting}
+use Rattle.f2_plain.proofs.MountRolls.{rolled_fitting}
 
 -- what follows from a result and from what it comes with
 pub after_ok : {A E : Type 0} (result : Result A E) (T Q : A → Type 0) (P : Type 0) → IfOk result T → OnOk result P → ((answer : A) → T answer → P → Q answer) → IfOk result Q
@@ -22,14 +18,10 @@ pub either_way : {A E : Type 0} (result : Result A E) (P Q R : Type 0) → OnOk 
 either_way (Ok answer) P Q R so else_so next other = next so
 either_way (Err refused) P Q R so else_so next other = other else_so
 
-pub all_left : (extent : Extent) (state : State) → All IsFittingMark state.marks → All IsFittingMark (marks_left extent state)
-all_left Fewest state all = all_taken IsFittingMark state.acknowledged state.marks all
-all_left Most state all = all
-
-pub found_sound : (old : Seen) (base : Rows) (marks : List Mark) (choice blocks : ℕ) → IsSound old → IsFitting base → All IsFittingMark marks → IsSound (record (after_turn old (found old.state base marks choice)) { blocks = blocks })
-found_sound old base marks choice blocks sound fitting all = record {
+pub found_sound : (old : Seen) (meaning : Meaning) (choice blocks : ℕ) → IsSound old → IsFitting meaning.base → All IsFittingMark meaning.marks → IsSound (record (after_turn old (found old.state meaning choice)) { blocks = blocks })
+found_sound old meaning choice blocks sound fitting all = record {
   size = sound.size;
-  live = rolled_fitting base marks fitting all;
+  live = rolled_fitting meaning.base meaning.marks fitting all;
   base = fitting;
   pending = λ tree is. absurd (none-some tree is);
   marks = all;

@@ -10,16 +10,19 @@ use Rattle.f2_model.specs.declared.bounds.Limits.{Limits}
 use Rattle.f2_model.specs.declared.histories.Entry.TheVariants as entry
 use Rattle.f2_model.specs.declared.replies.Plan.TheVariants as plans
 use Rattle.f2_model.specs.declared.replies.Step.TheVariants as step
-use Rattle.f2_model.specs.Tree.{ROOT}
-use Rattle.f2_model.specs.State.{State, Flight, InCheck, initial}
-use Rattle.f2_model.specs.Step as machine
-use Rattle.f2_model.specs.Step.{Answer, Turn, MOUNT_SEAT, StepGo, StepCheck, Writes, Flushes, found, turned, completes, unchanged, step_failed}
+use Rattle.f2_model.specs.Tree.{ROOT, root_row, root_alone}
+use Rattle.f2_model.specs.State.{State, Flight, InCheck, base_up_to, initial}
+use Rattle.f2_model.specs.declared.events.Event.{Event}
+use Rattle.f2_model.specs.declared.events.Event.TheVariants.{Go, Mount}
+use Rattle.f2_model.specs.declared.events.Answer.{Answer}
+use Rattle.f2_model.specs.declared.events.Answer.TheVariants.{Stepped}
+use Rattle.f2_model.specs.Step.{Turn, calm, MOUNT_SEAT, StepGo, StepCheck, Writes, Flushes, found, turn_with, completes, unchanged, step_failed}
 use Rattle.f2_plain_calls.specs.Given.{MOST_SIZE, IsFitting}
 use Rattle.f2_plain_state.specs.Seen.{Seen, told, after_turn}
-use Rattle.f2_plain.specs.declared.events.Extent.TheVariants.{Fewest}
-use Rattle.f2_plain.specs.declared.events.Choices.{Choices}
-use Rattle.f2_plain.specs.Choosing.{calm, AsLeft, blocks_after, ComesTo}
-use Rattle.f2_plain.specs.Sound.{IsSound, IsPlain, bare_tree, root_row, made_by}
+use Rattle.f2_plain.specs.declared.choices.Extent.TheVariants.{Fewest}
+use Rattle.f2_plain.specs.declared.choices.Choices.{Choices}
+use Rattle.f2_plain.specs.Choosing.{AsLeft, blocks_after, ComesTo}
+use Rattle.f2_plain.specs.Sound.{IsFittingMark, IsSound, IsPlain, first_meaning, made_by}
 use Rattle.f2_plain.proofs.MountRolls.{rolled_fitting}
 
 -- what a machine is made with
@@ -28,13 +31,13 @@ making = record { marks = Fewest; pending = false; blocks = 0 }
 
 -- before its mount, after it, and after its tail
 abbrev pub begun_by : Limits → Seen
-begun_by limits = record { limits = limits; state = initial bare_tree []; entries = []; choices = []; blocks = 0 }
+begun_by limits = record { limits = limits; state = initial first_meaning; entries = []; choices = []; blocks = 0 }
 
 abbrev pub mounted_by : Limits → Seen
-mounted_by limits = record (after_turn (begun_by limits) (found (initial bare_tree []) bare_tree [] 0)) { blocks = 0 }
+mounted_by limits = record (after_turn (begun_by limits) (found (initial first_meaning) (base_up_to (initial first_meaning) 0) 0)) { blocks = 0 }
 
 abbrev pub tailed_by : Limits → Seen
-tailed_by limits = told (mounted_by limits) (entry.CpTail MOUNT_SEAT ∷ []) [] (record (mounted_by limits).state { pending = Some bare_tree })
+tailed_by limits = told (mounted_by limits) (entry.CpTail MOUNT_SEAT ∷ []) [] (record (mounted_by limits).state { pending = Some root_alone })
 
 -- an empty map fits, and so does the tree of the root
 empty_fitting : IsFitting map.empty
@@ -43,18 +46,18 @@ empty_fitting = record {
   short = λ ino row is. absurd (none-some row (sym (map.get-empty nat_cmp ino) ∙ is));
 }
 
-bare_fitting : IsFitting bare_tree
-bare_fitting = rolled_fitting map.empty (record { ino = ROOT; row = root_row } ∷ []) empty_fitting (λ k d inside. root_fits k d inside)
+root_fitting : IsFitting root_alone
+root_fitting = rolled_fitting map.empty (record { ino = ROOT; row = root_row } ∷ []) empty_fitting (λ k d inside. root_fits k d inside)
   where
-    root_fits : All Rattle.f2_plain.specs.Sound.IsFittingMark (record { ino = ROOT; row = root_row } ∷ [])
+    root_fits : All IsFittingMark (record { ino = ROOT; row = root_row } ∷ [])
     root_fits zero d inside = (refl, omega arith)
     root_fits (suc k) d inside = absurd (omega arith)
 
 -- before its mount it is a run of no event
 pub begun_plain : (limits : Limits) → limits.size ≤ MOST_SIZE → IsPlain (begun_by limits)
 begun_plain limits size = record {
-  sound = record { size = size; live = bare_fitting; base = bare_fitting; pending = λ tree is. absurd (none-some tree is); marks = λ k d inside. absurd (omega arith); acknowledged = omega arith };
-  run = record { events = []; happened = refl; entries_left = refl; choices_left = refl };
+  sound = record { size = size; live = root_fitting; base = root_fitting; pending = λ tree is. absurd (none-some tree is); marks = λ k d inside. absurd (omega arith); acknowledged = omega arith };
+  run = record { events = []; happened = (omega arith, refl); entries_left = refl; choices_left = refl };
 }
 
 -- no call of the disk failed where none was made
@@ -85,21 +88,21 @@ alone_gone = map.same_map nat_cmp_total nat_cmp-IsAntisymmetric _ _ (λ q. map.g
     by_tie q false tie = map.get-insert nat_cmp_total map.empty MOUNT_SEAT (InCheck plans.Sync) q ∙ ap (λ b. cond b (Some (InCheck plans.Sync)) (map.get (map.empty {R = nat_cmp}) q)) tie ∙ map.get-empty nat_cmp q
 
 -- where an event came to a turn it came to its state
-ends_at : (choices : Choices) (old new : Seen) (event : machine.Event) (answer : Answer) (turn : Turn) (came : ComesTo choices old new event answer) → came.turn ≡ turn
+ends_at : (choices : Choices) (old new : Seen) (event : Event) (answer : Answer) (turn : Turn) (came : ComesTo choices old new event answer) → came.turn ≡ turn
     → new ≡ record (after_turn old turn) { blocks = blocks_after choices old turn.answer }
 ends_at choices old new event answer turn came is =
     came.after ∙ ap (λ told. record (after_turn old came.turn) { blocks = blocks_after choices old told }) (sym came.told) ∙ ap (λ (t : Turn). record (after_turn old t) { blocks = blocks_after choices old t.answer }) is
 
-pub mount_made : (limits : Limits) (new : Seen) (answer : Answer) → ComesTo making (begun_by limits) new machine.Mount answer → new ≡ mounted_by limits
-mount_made limits new answer came = ends_at making (begun_by limits) new machine.Mount answer (found (initial bare_tree []) bare_tree [] 0) came (came.chosen refl)
+pub mount_made : (limits : Limits) (new : Seen) (answer : Answer) → ComesTo making (begun_by limits) new Mount answer → new ≡ mounted_by limits
+mount_made limits new answer came = ends_at making (begun_by limits) new Mount answer (found (initial first_meaning) (base_up_to (initial first_meaning) 0) 0) came (came.chosen refl)
 
-pub tail_made : (limits : Limits) (new : Seen) (answer : Answer) → ComesTo making (mounted_by limits) new (machine.Go MOUNT_SEAT) answer → new ≡ tailed_by limits
-tail_made limits new answer came = ends_at making (mounted_by limits) new (machine.Go MOUNT_SEAT) answer tail came (either (from_some (map.get alone MOUNT_SEAT) _ _ (InCheck plans.Sync) alone_there came.step))
+pub tail_made : (limits : Limits) (new : Seen) (answer : Answer) → ComesTo making (mounted_by limits) new (Go MOUNT_SEAT) answer → new ≡ tailed_by limits
+tail_made limits new answer came = ends_at making (mounted_by limits) new (Go MOUNT_SEAT) answer tail came (either (from_some (map.get alone MOUNT_SEAT) _ _ (InCheck plans.Sync) alone_there came.step))
   where
     tail : Turn
-    tail = turned (machine.Stepped step.Tail) (entry.CpTail MOUNT_SEAT ∷ []) [] (record (mounted_by limits).state { pending = Some bare_tree })
+    tail = turn_with (Stepped step.Tail) (entry.CpTail MOUNT_SEAT ∷ []) [] (record (mounted_by limits).state { pending = Some root_alone })
 
-    no_block : came.turn ≡ unchanged (mounted_by limits).state (machine.Stepped step.Block) → ⊥
+    no_block : came.turn ≡ unchanged (mounted_by limits).state (Stepped step.Block) → ⊥
     no_block is =
         let left : 0 < 0 = subst (λ (t : Turn). AsLeft 0 t.answer) is came.chosen in
         omega (arith, left)
@@ -109,8 +112,8 @@ tail_made limits new answer came = ends_at making (mounted_by limits) new (machi
     either (inl (inr flush)) = absurd (no_block (calm_flushes (mounted_by limits).state MOUNT_SEAT step_failed _ came.turn flush))
     either (inr wrote) = calm_writes MOUNT_SEAT step_failed _ came.turn wrote
 
-pub done_made : (limits : Limits) (new : Seen) (answer : Answer) → ComesTo making (tailed_by limits) new (machine.Go MOUNT_SEAT) answer → new ≡ made_by limits
+pub done_made : (limits : Limits) (new : Seen) (answer : Answer) → ComesTo making (tailed_by limits) new (Go MOUNT_SEAT) answer → new ≡ made_by limits
 done_made limits new answer came =
-    ends_at making (tailed_by limits) new (machine.Go MOUNT_SEAT) answer (completes (tailed_by limits).state MOUNT_SEAT plans.Sync) came
+    ends_at making (tailed_by limits) new (Go MOUNT_SEAT) answer (completes (tailed_by limits).state MOUNT_SEAT plans.Sync) came
     (calm_flushes (tailed_by limits).state MOUNT_SEAT step_failed _ came.turn (from_some (map.get alone MOUNT_SEAT) _ _ (InCheck plans.Sync) alone_there came.step))
     ∙ ap (λ flights. record (made_by limits) { state = record (made_by limits).state { flights = flights } }) alone_gone

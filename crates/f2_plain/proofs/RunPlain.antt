@@ -1,35 +1,40 @@
 -- A machine after an event is a run of the abstract machine still.
-use Rattle.std.proofs.Common.{◌≡◌, ℕ, List, [], ◌∷◌, ◌++◌, refl, ap, sym, ◌∙◌, subst, append_assoc, append-nil}
+use Rattle.std.proofs.Common.{◌≡◌, ℕ, arith, List, [], ◌∷◌, ◌++◌, refl, ap, sym, ◌∙◌, subst, append_assoc, append-nil}
 use Rattle.std.specs.Prelude.{Result, Ok, Err, IfOk, OnErr}
 use Rattle.std.specs.List.{flat_map}
 use Rattle.f2_model.specs.declared.bounds.Limits.{Limits}
 use Rattle.f2_model.specs.declared.histories.Entry.{Entry}
 use Rattle.f2_model.specs.State.{State, initial}
-use Rattle.f2_model.specs.Step.{Event, Answer, Crash, Crashed, Turn, Step, crashed}
+use Rattle.f2_model.specs.Step.{Turn, Step, calm, crashed}
+use Rattle.f2_model.specs.declared.events.Event.{Event}
+use Rattle.f2_model.specs.declared.events.Event.TheVariants.{Crash}
+use Rattle.f2_model.specs.declared.events.Answer.{Answer}
+use Rattle.f2_model.specs.declared.events.Answer.TheVariants.{Crashed}
 use Rattle.f2_model.specs.Run.{Happening, Happened, IsRun, entries_of, choices_of}
 use Rattle.f2_plain_state.specs.Seen.{Seen, after_turn}
-use Rattle.f2_plain.specs.declared.events.Choices.{Choices}
-use Rattle.f2_plain.specs.Choosing.{calm, ComesTo}
-use Rattle.f2_plain.specs.Sound.{IsSound, IsPlain, bare_tree}
+use Rattle.f2_plain.specs.declared.choices.Choices.{Choices}
+use Rattle.f2_plain.specs.Choosing.{ComesTo}
+use Rattle.f2_plain.specs.Sound.{IsSound, IsPlain, first_meaning}
 
 -- a list of lists one after another
 flat_map-append : {X Y : Type 0} (f : X → List Y) (xs ys : List X) → flat_map f (xs ++ ys) ≡ flat_map f xs ++ flat_map f ys
 flat_map-append f [] ys = refl
 flat_map-append f (x ∷ xs) ys = ap (λ zs. f x ++ zs) (flat_map-append f xs ys) ∙ sym (append_assoc (f x) (flat_map f xs) (flat_map f ys))
 
--- an event after events
-happened-once : (limits : Limits) (from mid : State) (events : List Happening) (one : Happening) → Happened limits from events mid → Step limits one.faults mid one.event one.turn → Happened limits from (events ++ one ∷ []) one.turn.after
-happened-once limits from mid [] one first step = (subst (λ (s : State). Step limits one.faults s one.event one.turn) (sym first) step, refl)
-happened-once limits from mid (x ∷ xs) one first step = (first.0, happened-once limits x.turn.after mid xs one first.1 step)
+-- an event after events, where no call of a disk failed
+happened-once : (limits : Limits) (before : ℕ) (from mid : State) (events : List Happening) (event : Event) (turn : Turn) → Happened limits (record { before = before; after = 0 }) from events mid → Step limits calm mid event turn
+    → Happened limits (record { before = before; after = 0 }) from (events ++ record { event = event; faults = calm; turn = turn } ∷ []) turn.after
+happened-once limits before from mid [] event turn first step = (first.0, omega arith, subst (λ (s : State). Step limits calm s event turn) (sym first.1) step, (omega arith, refl))
+happened-once limits before from mid (x ∷ xs) event turn first step = (first.0, first.1, first.2, happened-once limits x.faults.after x.turn.after mid xs event turn first.3 step)
 
 -- a run goes on by one event
-run-once : (limits : Limits) (from mid : State) (entries : List Entry) (choices : List ℕ) (event : Event) (turn : Turn) → IsRun limits from entries choices mid → Step limits calm mid event turn
-    → IsRun limits from (entries ++ turn.entries) (choices ++ turn.choices) turn.after
+run-once : (limits : Limits) (from mid : State) (entries : List Entry) (choices : List ℕ) (event : Event) (turn : Turn) → IsRun limits calm from entries choices mid → Step limits calm mid event turn
+    → IsRun limits calm from (entries ++ turn.entries) (choices ++ turn.choices) turn.after
 run-once limits from mid entries choices event turn run step =
     let one : Happening = record { event = event; faults = calm; turn = turn } in
     record {
       events = run.events ++ one ∷ [];
-      happened = happened-once limits from mid run.events one run.happened step;
+      happened = happened-once limits 0 from mid run.events event turn run.happened step;
       entries_left = ap (λ e. e ++ turn.entries) run.entries_left ∙ ap (λ e. entries_of run.events ++ e) (sym (append-nil turn.entries)) ∙ sym (flat_map-append (λ (h : Happening). h.turn.entries) run.events (one ∷ []));
       choices_left = ap (λ c. c ++ turn.choices) run.choices_left ∙ ap (λ c. choices_of run.events ++ c) (sym (append-nil turn.choices)) ∙ sym (flat_map-append (λ (h : Happening). h.turn.choices) run.events (one ∷ []));
     }
@@ -38,8 +43,8 @@ run-once limits from mid entries choices event turn run step =
 comes_plain : (choices : Choices) (old new : Seen) (event : Event) (answer : Answer) → IsPlain old → ComesTo choices old new event answer → IsSound new → IsPlain new
 comes_plain choices old new event answer plain came sound = record {
   sound = sound;
-  run = subst (λ (seen : Seen). IsRun seen.limits (initial bare_tree []) seen.entries seen.choices seen.state) (sym came.after)
-      (run-once old.limits (initial bare_tree []) old.state old.entries old.choices event came.turn plain.run came.step);
+  run = subst (λ (seen : Seen). IsRun seen.limits calm (initial first_meaning) seen.entries seen.choices seen.state) (sym came.after)
+      (run-once old.limits (initial first_meaning) old.state old.entries old.choices event came.turn plain.run came.step);
 }
 
 -- what an event leaves that may have failed for want of memory

@@ -2,14 +2,14 @@
 use Rattle.std.proofs.Common.{◌≡◌, ℕ, ◌<◌, ◌≤◌, true, false, not, nat_lt, nat_le, is_some, [], ◌∷◌, Some, None, MatchOption, refl, arith, sym, ap, ◌∙◌, inl}
 use Rattle.f2_model.specs.State.{State}
 use Rattle.f2_model.specs.Step as machine
-use Rattle.f2_model.specs.Step.{Turn, Ticked, StepTick, TicksPage, TicksNode, unchanged, least_thawed, has_data_room, has_node_room}
+use Rattle.f2_model.specs.Step.{Turn, calm, StepTick, TicksPage, TicksNode, unchanged, least_thawed, has_data_room, has_node_room}
+use Rattle.f2_model.specs.declared.events.Answer.TheVariants.{Ticked}
 use Rattle.f2_model.specs.declared.bounds.Limits.{Limits}
 use Rattle.f2_model.specs.declared.replies.Tick as tick_type
 use Rattle.f2_model.specs.declared.replies.Tick.TheVariants as tick
 use Rattle.f2_model.specs.declared.histories.Entry.TheVariants as entry
 use Rattle.f2_laws.specs.Choice.{tells_failure}
 use Rattle.f2_plain_state.specs.Seen.{Seen, told, after_turn}
-use Rattle.f2_plain.specs.Choosing.{calm}
 use Rattle.f2_plain.specs.Going.{MayTick, TicksTo}
 use Rattle.f2_plain.proofs.GoSteps.{on_false, on_true, on_none, on_some, rested}
 
@@ -93,7 +93,7 @@ module _ (old : Seen) (may : MayTick old.state) where
 
   module _ (node : ℕ × ℕ) (no_page : least_thawed old.state old.state.dirty_pages ≡ None) (least : least_thawed old.state old.state.dirty_nodes ≡ Some node) where
     pub node-TicksTo : (new : Seen) → has_node_room old.limits old.state ≡ true
-        → new ≡ told old (entry.WroteNode node.0 node.1 ∷ []) [] (machine.node_written old.state node.0 node.1) → TicksTo old new tick.Node
+        → new ≡ told old (entry.WroteNode node.0 node.1 ∷ []) [] (machine.node_logged old.state node.0 node.1) → TicksTo old new tick.Node
     node-TicksTo new room after = ticked old new tick.Node _
         (past old.limits old.state _ may (on_none (least_thawed old.state old.state.dirty_pages) _ _ no_page
         (on_some (least_thawed old.state old.state.dirty_nodes) _ _ node least (on_true (has_node_room old.limits old.state) _ _ room (inl refl))))) refl refl after

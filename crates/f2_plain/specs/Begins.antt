@@ -1,16 +1,16 @@
 -- What the beginning of a call comes to, part by part.
-use Rattle.std.specs.Prelude.{◌≡◌, ℕ, Bool, not, ◌&&◌, is_none, List, [], ◌∷◌, Option, Some, None, Result, Ok, Err, MatchOption}
+use Rattle.std.specs.Prelude.{◌≡◌, ℕ, Bool, true, not, ◌&&◌, is_none, List, [], ◌∷◌, Option, Some, None, Result, Ok, Err, MatchOption}
 use Rattle.std.specs.Bool.{MatchBool}
 use Rattle.std.specs.List.{All}
 use Rattle.std.specs.FinMap as map
 use Rattle.std.specs.FinSet as set
 use Rattle.f2_model.specs.Tree.{Rows}
 use Rattle.f2_model.specs.Call.{effect, space_refusal}
-use Rattle.f2_model.specs.State.{State, with_rows, dirtied, touched, removed}
+use Rattle.f2_model.specs.State.{State, from_both_rows, dirtied, touched, removed}
 use Rattle.f2_model.specs.Fallback.{fallback}
-use Rattle.f2_model.specs.Step as machine
-use Rattle.f2_model.specs.Step.{Turn, adds_row, called, did, TakesEffect}
+use Rattle.f2_model.specs.Step.{Turn, adds_row, called, told_at_once, TakesEffect}
 use Rattle.f2_model.specs.declared.bounds.Limits.{Limits}
+use Rattle.f2_model.specs.declared.events.Answer.TheVariants.{Began}
 use Rattle.f2_model.specs.declared.rows.Row.{Row}
 use Rattle.f2_model.specs.declared.requests.Request.{Request}
 use Rattle.f2_model.specs.declared.replies.Begun.{Begun}
@@ -22,23 +22,23 @@ use Rattle.f2_laws.specs.Room.{IsLeastFreeIno}
 use Rattle.f2_plain_state.specs.Seen.{Seen, told, after_turn}
 use Rattle.f2_plain_state.specs.declared.calls.Call.{Call}
 use Rattle.f2_plain.specs.Choosing.{blocks_after}
-use Rattle.f2_plain.specs.declared.events.Choices.{Choices}
+use Rattle.f2_plain.specs.declared.choices.Choices.{Choices}
 
 -- a call that begins came to one of some turns, in which nothing failed, with this answer, chosen as told
-pub record BeginsBy (choices : Choices) (old new : Seen) (begun : Begun) (Is : Turn → Type 0) : Type 0 where
+pub record BeginsBy (choices : Choices) (old new : Seen) (request : Request) (begun : Begun) (Is : Turn → Type 0) : Type 0 where
   pub turn : Turn
   pub is : Is turn
   pub faultless : IsFaultless turn
-  pub chosen : All (IsLeastFreeIno old.limits old.state) turn.choices
-  pub told : turn.answer ≡ machine.Began begun
-  pub after : new ≡ record (after_turn old turn) { blocks = blocks_after choices old (machine.Began begun) }
+  pub chosen : adds_row request ≡ true → All (IsLeastFreeIno old.limits old.state) turn.choices
+  pub told : turn.answer ≡ Began begun
+  pub after : new ≡ record (after_turn old turn) { blocks = blocks_after choices old (Began begun) }
 
 -- a call of one event that neither its paths nor an fsync refuse: want of space refuses it, or else it takes effect
 abbrev pub ServesAtOnce : Limits → State → ℕ → Request → Turn → Type 0
 ServesAtOnce limits state seat request turn =
     MatchOption (space_refusal limits (effect state.live request limits.nids))
     (TakesEffect limits state seat request turn)
-    (λ refused. turn ≡ did state seat request refused [] state)
+    (λ refused. turn ≡ told_at_once state seat request refused [] state)
 
 -- a call was told and took effect, and a new row has the least free ino
 abbrev pub TookEffect : Seen → Seen → Call → Type 0
@@ -49,7 +49,12 @@ TookEffect old new call =
 
 -- a state after a call changed the pages of the row at the end of two walks, before it and after it
 abbrev pub pages_changed : State → Request → Result Row Reply → Result Row Reply → State
-pages_changed state request before after = with_rows state before after (λ old new. dirtied state old new (touched old request) (removed old request))
+pages_changed state request before after = from_both_rows state before after (λ old new. dirtied state old new (touched old request) (removed old request))
+
+-- the same, where the rows are given
+abbrev pub rows_changed : State → Request → Option (Row × Row) → State
+rows_changed state request None = state
+rows_changed state request (Some rows) = dirtied state rows.0 rows.1 (touched rows.0 request) (removed rows.0 request)
 
 -- the ino of the row at the end of a walk
 abbrev pub ino_of : Result Row Reply → Option ℕ

@@ -4,3 +4,4 @@ pub mod Choosing
 pub mod Sound
 pub mod Going
 pub mod Begins
+pub mod Written

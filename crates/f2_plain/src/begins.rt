@@ -1,29 +1,29 @@
 //! Calls begin.
-ghost use Rattle.std.specs.Prelude.{◌≡◌, ◌≢◌, ℕ, ◌-◌, [], ◌∷◌, None, IfOk, OnOk, OnErr};
+ghost use Rattle.std.specs.Prelude.{◌≡◌, ◌≢◌, ℕ, ◌-◌, ◌<◌, List, [], ◌∷◌, true, false, None, IfOk, OnOk, OnErr};
 ghost use Rattle.f2_model.specs.Call as calls;
 ghost use Rattle.std.specs.List.{find, range_with_len};
 ghost use Rattle.f2_laws.specs.Room.{IsLeastFreeIno};
 ghost use Rattle.f2_model.specs.Step as machine;
 ghost use Rattle.f2_model.specs.Tree as tree;
+ghost use Rattle.f2_model.specs.declared.events.Answer.TheVariants as answers;
+ghost use Rattle.f2_model.specs.declared.events.Event.TheVariants as events;
 ghost use Rattle.f2_model.specs.declared.histories.Entry.TheVariants as entry;
 ghost use Rattle.f2_model.specs.declared.replies.Begun.TheVariants as begun;
 ghost use Rattle.f2_model.specs.declared.replies.Plan.TheVariants as plans;
-ghost use Rattle.f2_model.specs.declared.requests.Request.TheVariants as requests;
-ghost use Rattle.f2_plain.specs.Begins.{BeginsBy, ServesAtOnce, TookEffect, both_rows, file_to_sync, ino_of, is_unused, pages_changed};
-ghost use Rattle.f2_plain.specs.Choosing.{ComesTo, calm};
+ghost use Rattle.f2_plain.specs.Begins.{BeginsBy, ServesAtOnce, TookEffect, both_rows, file_to_sync, ino_of, is_unused, rows_changed};
+ghost use Rattle.f2_plain.specs.Choosing.{ComesTo};
 ghost use Rattle.f2_plain.specs.Sound.{IsSound};
 ghost use Rattle.f2_plain_calls.specs.Given.{MOST_SIZE, WritesWithin};
 ghost use Rattle.f2_plain_state.specs.Seen.{told, after_turn};
 
-use crate::events::Choices;
-use f2_model::{Begun, Path, Plan, Reason, Reply, Request, Row, Tree};
+use crate::choices::Choices;
+use f2_model::{
+    Begun, BoxedRequest, MOST_ENTRIES, Mode, Path, Plan, Reason, Reply, Request, Row, Tree,
+};
 use f2_plain_calls::{answer, copy_row, effect, refusal, removed, space_refusal, touched, walk};
 use f2_plain_reasons::fallback;
-use f2_plain_state::{Call, Mode, Plain};
+use f2_plain_state::{Call, Plain};
 use std::alloc::{AllocError, Global};
-
-/// A call begins only where the history has fewer entries.
-pub(crate) const MOST_ENTRIES: usize = 262_144;
 
 /// The least number that an inode may have.
 const FIRST_INO: u32 = 4;
@@ -92,11 +92,11 @@ fn least_free_ino(plain: &Plain) -> Option<u32>
 fn answer_alone(
     plain: &mut Plain,
     seat: u8,
-    request: Request,
+    request: BoxedRequest,
     reply: Reply,
 ) -> Result<Begun, AllocError>
     ensures replied { IfOk result (λ answer. answer ≡ begun.Replied reply) }
-    ensures ok { OnOk result (plain.new ≡ after_turn plain.old (machine.did plain.old.state seat request reply [] plain.old.state)) }
+    ensures ok { OnOk result (plain.new ≡ after_turn plain.old (machine.told_at_once plain.old.state seat request reply [] plain.old.state)) }
     ensures err { OnErr result (plain.new ≡ plain.old) }
 {
     let outcome = reply.outcome();
@@ -120,7 +120,7 @@ fn add_row(alloc: Global, plain: &mut Plain, call: Call) -> Result<(), AllocErro
     let Some(ino) = least_free_ino(plain) else {
         return Err(AllocError);
     };
-    let after = effect(alloc, plain.limits(), plain.live(), &call.request, ino)?;
+    let after = effect(alloc, plain.limits(), plain.live(), call.request.get(), ino)?;
     plain.called(call, Some(ino), after)
 }
 
@@ -139,22 +139,22 @@ fn rows_at(
     }
 }
 
-/// A call changes the pages of a file.
+/// A call changes the pages of a file, of which the rows before and after it are given, where both are there.
 fn change_pages(
     alloc: Global,
     plain: &mut Plain,
     call: Call,
-    path: &Path,
+    rows: Option<(Row, Row)>,
     after: Tree,
 ) -> Result<(), AllocError>
     requires { WritesWithin MOST_SIZE call.request }
-    ensures ok { OnOk result (plain.new ≡ told plain.old (entry.Did call.seat call.request call.outcome ∷ []) [] (record (pages_changed plain.old.state call.request (tree.walk plain.old.state.live path.now) (tree.walk after path.now)) { live = after })) }
+    ensures ok { OnOk result (plain.new ≡ told plain.old (entry.Did call.seat call.request call.outcome ∷ []) [] (record (rows_changed plain.old.state call.request rows) { live = after })) }
     ensures err { OnErr result (plain.new ≡ plain.old) }
 {
-    match rows_at(alloc, plain.live(), &after, path)? {
+    match rows {
         Some((old, new)) => {
-            let touched = touched(alloc, &old, &call.request)?;
-            let removed = removed(alloc, &old, &call.request)?;
+            let touched = touched(alloc, &old, call.request.get())?;
+            let removed = removed(alloc, &old, call.request.get())?;
             plain.called_on_pages(
                 call,
                 &old,
@@ -187,11 +187,11 @@ fn take_effect(alloc: Global, plain: &mut Plain, call: Call, after: Tree) -> Res
     ensures ok { OnOk result (TookEffect plain.old plain.new call) }
     ensures err { OnErr result (plain.new ≡ plain.old) }
 {
-    let request = call.request.copy(alloc)?;
-    match &request {
+    match call.request.get() {
         Request::Create { .. } | Request::Mkdir { .. } => add_row(alloc, plain, call),
         Request::Write { path, .. } | Request::Truncate { path, .. } => {
-            change_pages(alloc, plain, call, path, after)
+            let rows = rows_at(alloc, plain.live(), &after, path)?;
+            change_pages(alloc, plain, call, rows, after)
         }
         Request::Unlink { path } => match ino_at(plain.live(), path) {
             Some(ino) => plain.called_on_gone(call, ino, after),
@@ -210,20 +210,20 @@ fn call_at_once(
     alloc: Global,
     plain: &mut Plain,
     seat: u8,
-    request: Request,
+    request: BoxedRequest,
     choices: Choices,
 ) -> Result<Begun, AllocError>
     requires sound { IsSound plain.old }
     requires unrefused { calls.refusal plain.old.limits plain.old.state.live request ≡ None }
-    ensures ok { IfOk result (λ begun. BeginsBy choices plain.old plain.new begun (ServesAtOnce plain.old.limits plain.old.state seat request)) }
+    ensures ok { IfOk result (λ begun. BeginsBy choices plain.old plain.new request begun (ServesAtOnce plain.old.limits plain.old.state seat request)) }
     ensures err { OnErr result (plain.new ≡ plain.old) }
 {
     let limits = plain.limits();
-    let after = effect(alloc, limits, plain.live(), &request, limits.nids)?;
+    let after = effect(alloc, limits, plain.live(), request.get(), limits.nids)?;
     if let Some(refused) = space_refusal(alloc, limits, &after)? {
         return answer_alone(plain, seat, request, refused);
     }
-    let reply = answer(alloc, plain.live(), &request)?;
+    let reply = answer(alloc, plain.live(), request.get())?;
     let outcome = reply.outcome();
     let call = Call {
         seat,
@@ -238,12 +238,13 @@ fn call_at_once(
 fn begin_check(
     plain: &mut Plain,
     seat: u8,
-    request: Request,
+    request: BoxedRequest,
     plan: Plan,
     choices: Choices,
 ) -> Result<Begun, AllocError>
-    requires { plan ≢ plans.Roll }
-    ensures ok { IfOk result (λ begun. BeginsBy choices plain.old plain.new begun (machine.BeginsCheck plain.old.state seat request plan)) }
+    requires check { plan ≢ plans.Roll }
+    requires rowless { machine.adds_row request ≡ false }
+    ensures ok { IfOk result (λ begun. BeginsBy choices plain.old plain.new request begun (machine.BeginsCheck plain.old.state seat request plan)) }
     ensures err { OnErr result (plain.new ≡ plain.old) }
 {
     if let Some(by) = plain.flights().least() {
@@ -267,19 +268,18 @@ fn file_to_sync(
     }
 }
 
-/// An fsync of a file rolls forward, or begins a checkpoint for a reason.
+/// An fsync of the file that its path leads to rolls forward, or begins a checkpoint for a reason.
 fn begin_fsync(
-    alloc: Global,
     plain: &mut Plain,
     seat: u8,
-    path: Path,
+    request: BoxedRequest,
+    file: Result<(u32, Option<Reason>), Reply>,
     choices: Choices,
 ) -> Result<Begun, AllocError>
-    ensures ok { IfOk result (λ begun. BeginsBy choices plain.old plain.new begun (machine.BeginsFsync plain.old.limits plain.old.state seat (requests.Fsync path) (tree.walk plain.old.state.live path))) }
+    requires { machine.adds_row request ≡ false }
+    ensures ok { (path : List (List ℕ)) → file ≡ file_to_sync plain.old.limits plain.old.state (tree.walk plain.old.state.live path) → IfOk result (λ begun. BeginsBy choices plain.old plain.new request begun (machine.BeginsFsync plain.old.limits plain.old.state seat request (tree.walk plain.old.state.live path))) }
     ensures err { OnErr result (plain.new ≡ plain.old) }
 {
-    let file = file_to_sync(alloc, plain, &path)?;
-    let request = Request::Fsync { path };
     match file {
         Ok((ino, reason)) => match reason {
             None => {
@@ -297,19 +297,47 @@ fn serve(
     alloc: Global,
     plain: &mut Plain,
     seat: u8,
-    request: Request,
+    request: BoxedRequest,
     choices: Choices,
 ) -> Result<Begun, AllocError>
     requires sound { IsSound plain.old }
     requires unrefused { calls.refusal plain.old.limits plain.old.state.live request ≡ None }
-    ensures ok { IfOk result (λ begun. BeginsBy choices plain.old plain.new begun (machine.Serves plain.old.limits calm plain.old.state seat request)) }
+    ensures ok { IfOk result (λ begun. BeginsBy choices plain.old plain.new request begun (machine.Serves plain.old.limits machine.calm plain.old.state seat request)) }
     ensures err { OnErr result (plain.new ≡ plain.old) }
 {
-    match request {
-        Request::Fsync { path } => begin_fsync(alloc, plain, seat, path, choices),
-        Request::Sync => begin_check(plain, seat, Request::Sync, Plan::Sync, choices),
-        request => call_at_once(alloc, plain, seat, request, choices),
+    match request.get() {
+        Request::Fsync { path } => {
+            let file = file_to_sync(alloc, plain, path)?;
+            begin_fsync(plain, seat, request, file, choices)
+        }
+        Request::Sync => begin_check(plain, seat, request, Plan::Sync, choices),
+        _ => call_at_once(alloc, plain, seat, request, choices),
     }
+}
+
+/// A call begins of a seat that nobody bars: the first test that holds decides. Where memory is refused nothing changed.
+fn begin_free(
+    alloc: Global,
+    plain: &mut Plain,
+    seat: u8,
+    request: BoxedRequest,
+    choices: Choices,
+) -> Result<Begun, AllocError>
+    requires up { machine.is_up plain.old.state.mode ≡ true }
+    requires early { plain.old.state.entries < machine.MOST_ENTRIES }
+    requires free { machine.barring_seat plain.old.state seat ≡ None }
+    requires sound { IsSound plain.old }
+    ensures ok { IfOk result (λ begun. BeginsBy choices plain.old plain.new request begun (machine.StepBegin plain.old.limits machine.calm plain.old.state seat request)) }
+    ensures err { OnErr result (plain.new ≡ plain.old) }
+    ensures sound { IsSound plain.new }
+{
+    if let Some(refused) = refusal(plain.limits(), plain.live(), request.get()) {
+        return answer_alone(plain, seat, request, refused);
+    }
+    if let Some(by) = freezing(plain, request.get()) {
+        return Ok(Begun::Replied(Reply::Busy { by }));
+    }
+    serve(alloc, plain, seat, request, choices)
 }
 
 /// A seat begins a call: the first test that holds decides. Where memory is refused nothing changed.
@@ -320,8 +348,9 @@ pub(crate) fn begin(
     request: Request,
     choices: Choices,
 ) -> Result<Begun, AllocError>
+    requires seat { machine.IsSeat seat }
     requires sound { IsSound plain.old }
-    ensures ok { IfOk result (λ begun. ComesTo choices plain.old plain.new (machine.Begin seat request) (machine.Began begun)) }
+    ensures ok { IfOk result (λ begun. ComesTo choices plain.old plain.new (events.Begin seat request) (answers.Began begun)) }
     ensures err { OnErr result (plain.new ≡ plain.old) }
     ensures sound { IsSound plain.new }
 {
@@ -334,11 +363,6 @@ pub(crate) fn begin(
     if let Some(by) = barring_seat(plain, seat) {
         return Ok(Begun::Replied(Reply::Busy { by }));
     }
-    if let Some(refused) = refusal(plain.limits(), plain.live(), &request) {
-        return answer_alone(plain, seat, request, refused);
-    }
-    if let Some(by) = freezing(plain, &request) {
-        return Ok(Begun::Replied(Reply::Busy { by }));
-    }
-    serve(alloc, plain, seat, request, choices)
+    let request = BoxedRequest::new(alloc, request)?;
+    begin_free(alloc, plain, seat, request, choices)
 }

@@ -1,16 +1,19 @@
 //! The events of a call in flight.
-ghost use Rattle.std.specs.Prelude.{◌≡◌, false, IfOk, OnErr, Some};
+ghost use Rattle.std.specs.Prelude.{◌≡◌, false, IfOk, OnErr, Some, None};
 ghost use Rattle.std.specs.FinMap as map;
-ghost use Rattle.f2_model.specs.State.{InPages, InNodes, Marked, InFsync, InCheck};
+ghost use Rattle.f2_model.specs.State.{InPages, InNodes, InFsync, InCheck};
 ghost use Rattle.f2_model.specs.Step as machine;
+ghost use Rattle.f2_model.specs.declared.events.Answer.TheVariants as answers;
+ghost use Rattle.f2_model.specs.declared.events.Event.TheVariants as events;
 ghost use Rattle.f2_plain.specs.Choosing.{ComesTo};
 ghost use Rattle.f2_plain.specs.Going.{IsAt, GoesTo};
 ghost use Rattle.f2_plain.specs.Sound.{IsSound};
+ghost use Rattle.f2_plain_state.specs.Parts.{drawn_of, progress_of};
 
-use crate::events::Choices;
-use f2_model::{Plan, Reply, Step};
+use crate::choices::Choices;
+use f2_model::{Mode, Plan, Reply, Step};
 use f2_plain_calls::{copy_row, copy_tree};
-use f2_plain_state::{Flight, Mode, Part, Plain};
+use f2_plain_state::{Drawn, Flight, Part, Plain, Progress, Slot};
 use std::alloc::{AllocError, Global};
 
 /// The reply at the end of a checkpoint.
@@ -21,6 +24,29 @@ fn reply_of_plan(plan: Plan) -> Reply
         Plan::Cp(reason) => Reply::Cp(reason),
         Plan::Roll | Plan::Sync => Reply::Synced,
     }
+}
+
+/// The step that writes what was drawn.
+fn step_of(drawn: Drawn) -> Step
+    ensures { result ≡ machine.step_of (drawn_of drawn) }
+{
+    match drawn {
+        Drawn::Node(offset) => Step::Node(offset),
+        Drawn::Mark => Step::Mark,
+    }
+}
+
+/// An fsync writes the block at its open position.
+fn go_slot(plain: &mut Plain, seat: u8, ino: u32, progress: Progress, slot: Slot) -> Step
+    requires flight { map.get plain.old.state.flights seat ≡ Some (InFsync ino (progress_of progress)) }
+    requires slot { progress.slot ≡ Some slot }
+    requires unshut { machine.is_shut plain.old.state.mode ≡ false }
+    requires sound { IsSound plain.old }
+    ensures ok { GoesTo plain.old plain.new seat result }
+    ensures sound { IsSound plain.new }
+{
+    plain.submitted(seat, ino, progress);
+    step_of(slot.drawn)
 }
 
 /// An fsync writes its least dirty page, or flushes.
@@ -43,7 +69,7 @@ fn go_pages(plain: &mut Plain, seat: u8, ino: u32) -> Result<Step, AllocError>
     }
 }
 
-/// An fsync writes its least dirty direct node, or its marked inode.
+/// An fsync draws a position of the node log for its least dirty direct node, or for its marked inode.
 fn go_nodes(alloc: Global, plain: &mut Plain, seat: u8, ino: u32) -> Result<Step, AllocError>
     requires at { IsAt plain.old.state seat ino InNodes }
     requires sound { IsSound plain.old }
@@ -53,13 +79,13 @@ fn go_nodes(alloc: Global, plain: &mut Plain, seat: u8, ino: u32) -> Result<Step
 {
     match plain.dirty_nodes().least_of(ino) {
         Some(offset) => {
-            plain.node_written(ino, offset)?;
-            Ok(Step::Node(offset))
+            let position = plain.node_drawn(seat, ino, offset)?;
+            Ok(Step::Slot(position))
         }
         None => {
             let row = copy_row(alloc, plain.live().get(ino).ok_or(AllocError)?)?;
-            plain.marked(seat, ino, row)?;
-            Ok(Step::Mark)
+            let position = plain.mark_drawn(seat, ino, row)?;
+            Ok(Step::Slot(position))
         }
     }
 }
@@ -87,20 +113,75 @@ fn go_check(alloc: Global, plain: &mut Plain, seat: u8, plan: Plan) -> Result<St
     Ok(Step::Tail)
 }
 
-/// An fsync makes its last flush.
-fn go_marked(plain: &mut Plain, seat: u8, ino: u32, place: usize) -> Result<Step, AllocError>
-    requires flight { map.get plain.old.state.flights seat ≡ Some (InFsync ino (record { part = Marked; place = place })) }
+/// An fsync waits for an open position below its mark's, or makes its last flush.
+fn go_marked(
+    plain: &mut Plain,
+    seat: u8,
+    ino: u32,
+    progress: Progress,
+) -> Result<Step, AllocError>
+    requires flight { map.get plain.old.state.flights seat ≡ Some (InFsync ino (progress_of progress)) }
+    requires part { progress.part ≡ Part.Marked }
+    requires slot { progress.slot ≡ None }
     requires unshut { machine.is_shut plain.old.state.mode ≡ false }
     requires sound { IsSound plain.old }
     ensures ok { IfOk result (λ step. GoesTo plain.old plain.new seat step) }
     ensures err { OnErr result (plain.new ≡ plain.old) }
     ensures sound { IsSound plain.new }
 {
-    if place >= plain.marks().len() {
+    if let Some(position) = plain.flights().gap_below(progress.position) {
+        return Ok(Step::Again(position));
+    }
+    if progress.place >= plain.marks().len() {
         return Err(AllocError);
     }
-    plain.acknowledges(seat, ino, Part::Marked, place)?;
+    plain.acknowledges(seat, ino, progress)?;
     Ok(Step::Replied(Reply::Roll))
+}
+
+/// One event of an fsync: an open position is written before anything else.
+fn go_fsync(
+    alloc: Global,
+    plain: &mut Plain,
+    seat: u8,
+    ino: u32,
+    progress: Progress,
+) -> Result<Step, AllocError>
+    requires flight { map.get plain.old.state.flights seat ≡ Some (InFsync ino (progress_of progress)) }
+    requires unshut { machine.is_shut plain.old.state.mode ≡ false }
+    requires sound { IsSound plain.old }
+    ensures ok { IfOk result (λ step. GoesTo plain.old plain.new seat step) }
+    ensures err { OnErr result (plain.new ≡ plain.old) }
+    ensures sound { IsSound plain.new }
+{
+    if let Some(slot) = progress.slot {
+        return Ok(go_slot(plain, seat, ino, progress, slot));
+    }
+    match progress.part {
+        Part::Pages => go_pages(plain, seat, ino),
+        Part::Nodes => go_nodes(alloc, plain, seat, ino),
+        Part::Marked => go_marked(plain, seat, ino, progress),
+    }
+}
+
+/// Whether the next event of an fsync draws a position of the node log.
+fn draws(progress: Progress) -> bool
+    ensures { result ≡ machine.draws (progress_of progress) }
+{
+    matches!(progress.part, Part::Nodes) && progress.slot.is_none()
+}
+
+/// Whether the next event of a seat's call draws a position of the node log.
+pub(crate) fn draws_next(plain: &Plain, seat: u8) -> bool
+    ensures { result ≡ machine.draws_next plain.now.state seat }
+{
+    if plain.mode() == Mode::Shut {
+        return false;
+    }
+    match plain.flights().get(seat) {
+        Some(Flight::Fsync { progress, .. }) => draws(progress),
+        Some(Flight::Check { .. }) | None => false,
+    }
 }
 
 /// One event of a seat's call. Where memory is refused nothing changed.
@@ -111,7 +192,7 @@ pub(crate) fn go(
     choices: Choices,
 ) -> Result<Step, AllocError>
     requires sound { IsSound plain.old }
-    ensures ok { IfOk result (λ step. ComesTo choices plain.old plain.new (machine.Go seat) (machine.Stepped step)) }
+    ensures ok { IfOk result (λ step. ComesTo choices plain.old plain.new (events.Go seat) (answers.Stepped step)) }
     ensures err { OnErr result (plain.new ≡ plain.old) }
     ensures sound { IsSound plain.new }
 {
@@ -123,11 +204,7 @@ pub(crate) fn go(
         return Ok(Step::Replied(Reply::Closed));
     }
     match flight {
-        Flight::Fsync { ino, part, place } => match part {
-            Part::Pages => go_pages(plain, seat, ino),
-            Part::Nodes => go_nodes(alloc, plain, seat, ino),
-            Part::Marked => go_marked(plain, seat, ino, place),
-        },
+        Flight::Fsync { ino, progress } => go_fsync(alloc, plain, seat, ino, progress),
         Flight::Check { plan } => go_check(alloc, plain, seat, plan),
     }
 }

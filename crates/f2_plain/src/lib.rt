@@ -8,13 +8,14 @@
 #![tactic(auto)]
 
 mod begins;
-mod events;
+mod choices;
 mod goes;
 mod machine;
 mod mounts;
 mod ticks;
+mod written;
 
-pub use events::{Answer, Choices, Event, Extent};
+pub use choices::{Choices, Extent};
 pub use f2_plain_calls::outcome;
 pub use f2_plain_reasons::fallback;
 pub use machine::Machine;

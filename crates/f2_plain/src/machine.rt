@@ -1,19 +1,20 @@
 //! The machine.
 ghost use Rattle.std.specs.Prelude.{◌≡◌, ◌≤◌, IfOk, OnErr};
+ghost use Rattle.f2_model.specs.Step.{draws_next};
 ghost use Rattle.f2_plain.specs.Choosing.{ComesTo};
-ghost use Rattle.f2_plain.specs.Events.{event_of, answer_of};
-ghost use Rattle.f2_plain.specs.Sound as sound;
+ghost use Rattle.f2_plain.specs.Events.{IsSeated};
 ghost use Rattle.f2_plain.specs.Sound.{IsPlain, made_by};
+ghost use Rattle.f2_plain.specs.Written.{written_place};
 ghost use Rattle.f2_plain_calls.specs.Given.{MOST_SIZE};
 
 use crate::begins::begin;
-use crate::events::{Answer, Choices, Event, Extent};
-use crate::goes::go;
-use crate::mounts::{mount, unmount};
+use crate::choices::{Choices, Extent};
+use crate::goes::{draws_next, go};
+use crate::mounts::{mount, unmount, upgrade};
 use crate::ticks::tick;
-use f2_model::{Kind, Limits, Name, Pages, Row, Tree};
-use f2_plain_calls::ROOT;
-use f2_plain_state::{MOUNT_SEAT, Plain};
+use crate::written::written_place;
+use f2_model::{Answer, Event, Format, Limits, MOUNT_SEAT, Tree};
+use f2_plain_state::Plain;
 use std::alloc::{AllocError, Global};
 use std::marker::Model;
 
@@ -55,29 +56,15 @@ const MAKING: Choices = Choices {
     blocks: 0,
 };
 
-/// The tree of the root alone.
-fn bare_tree(alloc: Global) -> Result<Tree, AllocError>
-    ensures { IfOk result (λ tree. tree ≡ sound.bare_tree) }
-{
-    let mut tree = Tree::new(alloc);
-    tree.put(Row {
-        ino: ROOT,
-        kind: Kind::Directory,
-        parent: ROOT,
-        name: Name::new(alloc),
-        size: 0,
-        pages: Pages::new(alloc),
-    })?;
-    Ok(tree)
-}
-
 impl Machine {
     /// A machine that was just made: its tree is the root alone, and its first mount is done.
     pub fn made(alloc: Global, limits: Limits) -> Result<Machine, AllocError>
         requires { limits.size ≤ MOST_SIZE }
         ensures { IfOk result (λ machine. machine ≡ made_by limits) }
     {
-        let plain = Plain::initial(alloc, limits, bare_tree(alloc)?, bare_tree(alloc)?);
+        let live = Tree::root_alone(alloc)?;
+        let base = Tree::root_alone(alloc)?;
+        let plain = Plain::initial(alloc, limits, live, base, Format::Two, 1);
         let mut machine = Machine { plain, alloc };
         let _ = machine.step(Event::Mount, MAKING)?;
         let _ = machine.step(Event::Go { seat: MOUNT_SEAT }, MAKING)?;
@@ -93,9 +80,24 @@ impl Machine {
         &self.plain
     }
 
-    /// One event. Where memory is refused nothing changed.
+    /// Whether the next event of a seat's call draws a position of the node log.
+    pub fn draws_next(&self, seat: u8) -> bool
+        ensures { result ≡ draws_next self.now.state seat }
+    {
+        draws_next(&self.plain, seat)
+    }
+
+    /// The place up to which each mark was written, with everything before it in the node log.
+    pub fn written_place(&self) -> Result<usize, AllocError>
+        ensures { IfOk result (λ place. place ≡ written_place self.now.state) }
+    {
+        written_place(self.alloc, &self.plain)
+    }
+
+    /// One event; a call begins from a seat, 1 to 9. Where memory is refused nothing changed.
     pub fn step(&mut self, event: Event, choices: Choices) -> Result<Answer, AllocError>
-        ensures ok { IfOk result (λ answer. ComesTo choices self.old self.new (event_of event) (answer_of answer)) }
+        requires { IsSeated event }
+        ensures ok { IfOk result (λ answer. ComesTo choices self.old self.new event answer) }
         ensures err { OnErr result (self.new ≡ self.old) }
     {
         match event {
@@ -108,6 +110,7 @@ impl Machine {
             Event::Tick => tick(self.alloc, &mut self.plain, choices).map(Answer::Ticked),
             Event::Mount => mount(self.alloc, &mut self.plain, choices),
             Event::Unmount => unmount(&mut self.plain, choices).map(Answer::Began),
+            Event::Upgrade => upgrade(&mut self.plain, choices).map(Answer::Began),
             Event::Crash => {
                 self.plain.crashes()?;
                 Ok(Answer::Crashed)

@@ -1,18 +1,20 @@
 //! Mounts and unmounts.
-ghost use Rattle.std.specs.Prelude.{◌≡◌, All, IfOk, OnOk, OnErr, length, map as map_list};
+ghost use Rattle.std.specs.Prelude.{◌≡◌, ◌≤◌, All, IfOk, OnOk, OnErr, length, take, map as map_list};
 ghost use Rattle.f2_model.specs.State as state;
 ghost use Rattle.f2_model.specs.Step as machine;
-ghost use Rattle.f2_plain.specs.Choosing.{ComesTo, marks_left};
-ghost use Rattle.f2_plain.specs.Events.{answer_of};
+ghost use Rattle.f2_model.specs.declared.events.Answer.TheVariants as answers;
+ghost use Rattle.f2_model.specs.declared.events.Event.TheVariants as events;
+ghost use Rattle.f2_plain.specs.Choosing.{ComesTo, place_left};
+ghost use Rattle.f2_plain.specs.Going.{ClosesTo};
 ghost use Rattle.f2_plain.specs.Sound.{IsFittingMark, IsSound};
 ghost use Rattle.f2_plain_calls.specs.Given.{IsKeyed};
 ghost use Rattle.f2_plain_state.specs.Parts.{mark_of};
 ghost use Rattle.f2_plain_state.specs.Seen.{after_turn};
 
-use crate::events::{Answer, Choices, Extent};
-use f2_model::{Begun, Plan, Reply, Tree};
+use crate::choices::{Choices, Extent};
+use f2_model::{Answer, Begun, Format, Mode, Plan, Reply, Tree};
 use f2_plain_calls::{copy_row, copy_tree};
-use f2_plain_state::{Mark, Mode, Plain};
+use f2_plain_state::{Mark, Plain};
 use std::alloc::{AllocError, Global};
 
 /// A base with marked rows put in place, in order.
@@ -28,17 +30,26 @@ fn rolled(alloc: Global, base: &Tree, marks: &[Mark]) -> Result<Tree, AllocError
     Ok(tree)
 }
 
+/// The place up to which marks remain.
+fn place_left(plain: &Plain, extent: Extent) -> usize
+    requires { IsSound plain.now }
+    ensures place { result ≡ place_left extent plain.now.state }
+    ensures there { result ≤ length plain.now.state.marks }
+{
+    match extent {
+        Extent::Fewest => plain.acknowledged(),
+        Extent::UpTo(place) => plain.acknowledged().max(place.min(plain.marks().len())),
+    }
+}
+
 /// A mount finds the base with the marks that are left to it.
 fn find_marks(alloc: Global, plain: &mut Plain, choices: Choices) -> Result<Answer, AllocError>
     requires sound { IsSound plain.old }
-    ensures told { IfOk result (λ answer. answer_of answer ≡ machine.Found (length (marks_left choices.marks plain.old.state))) }
-    ensures ok { OnOk result (plain.new ≡ record (after_turn plain.old (machine.found plain.old.state plain.old.state.base (marks_left choices.marks plain.old.state) 0)) { blocks = choices.blocks }) }
+    ensures told { IfOk result (λ answer. answer ≡ answers.Found (length (take (place_left choices.marks plain.old.state) plain.old.state.marks))) }
+    ensures ok { OnOk result (plain.new ≡ record (after_turn plain.old (machine.found plain.old.state (state.base_up_to plain.old.state (place_left choices.marks plain.old.state)) 0)) { blocks = choices.blocks }) }
     ensures err { OnErr result (plain.new ≡ plain.old) }
 {
-    let count = match choices.marks {
-        Extent::Fewest => plain.acknowledged().min(plain.marks().len()),
-        Extent::Most => plain.marks().len(),
-    };
+    let count = place_left(plain, choices.marks);
     let rows = u32::try_from(count).map_err(|_| AllocError)?;
     let live = rolled(alloc, plain.base(), &plain.marks()[..count])?;
     plain.finds_marks(count, live, choices.blocks)?;
@@ -52,12 +63,12 @@ pub(crate) fn mount(
     choices: Choices,
 ) -> Result<Answer, AllocError>
     requires sound { IsSound plain.old }
-    ensures ok { IfOk result (λ answer. ComesTo choices plain.old plain.new machine.Mount (answer_of answer)) }
+    ensures ok { IfOk result (λ answer. ComesTo choices plain.old plain.new events.Mount answer) }
     ensures err { OnErr result (plain.new ≡ plain.old) }
     ensures sound { IsSound plain.new }
 {
     if plain.mode() != Mode::Shut {
-        return Ok(Answer::Mounted);
+        return Ok(Answer::AlreadyMounted);
     }
     match plain.pending() {
         Some(tree) if choices.pending => {
@@ -69,10 +80,10 @@ pub(crate) fn mount(
     }
 }
 
-/// An unmount begins. Where memory is refused nothing changed.
-pub(crate) fn unmount(plain: &mut Plain, choices: Choices) -> Result<Begun, AllocError>
+/// The checkpoint of a format begins with which the volume is closed. Where memory is refused nothing changed.
+fn close(plain: &mut Plain, format: Format, choices: Choices) -> Result<Begun, AllocError>
     requires sound { IsSound plain.old }
-    ensures ok { IfOk result (λ begun. ComesTo choices plain.old plain.new machine.Unmount (machine.Began begun)) }
+    ensures ok { IfOk result (λ begun. ClosesTo choices plain.old plain.new format begun) }
     ensures err { OnErr result (plain.new ≡ plain.old) }
     ensures sound { IsSound plain.new }
 {
@@ -82,6 +93,27 @@ pub(crate) fn unmount(plain: &mut Plain, choices: Choices) -> Result<Begun, Allo
     if let Some(by) = plain.flights().least() {
         return Ok(Begun::Replied(Reply::Busy { by }));
     }
-    plain.begins_unmount(choices.blocks)?;
+    plain.begins_close(format, choices.blocks)?;
     Ok(Begun::Going(Plan::Sync))
+}
+
+/// An unmount begins, which keeps the format. Where memory is refused nothing changed.
+pub(crate) fn unmount(plain: &mut Plain, choices: Choices) -> Result<Begun, AllocError>
+    requires sound { IsSound plain.old }
+    ensures ok { IfOk result (λ begun. ComesTo choices plain.old plain.new events.Unmount (answers.Began begun)) }
+    ensures err { OnErr result (plain.new ≡ plain.old) }
+    ensures sound { IsSound plain.new }
+{
+    let format = plain.format();
+    close(plain, format, choices)
+}
+
+/// An upgrade begins, which sets the newer format. Where memory is refused nothing changed.
+pub(crate) fn upgrade(plain: &mut Plain, choices: Choices) -> Result<Begun, AllocError>
+    requires sound { IsSound plain.old }
+    ensures ok { IfOk result (λ begun. ComesTo choices plain.old plain.new events.Upgrade (answers.Began begun)) }
+    ensures err { OnErr result (plain.new ≡ plain.old) }
+    ensures sound { IsSound plain.new }
+{
+    close(plain, Format::Two, choices)
 }

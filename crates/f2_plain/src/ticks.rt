@@ -1,15 +1,16 @@
 //! The flusher.
 ghost use Rattle.std.specs.Prelude.{◌≡◌, IfOk, OnErr, Some, None};
 ghost use Rattle.f2_model.specs.Step as machine;
+ghost use Rattle.f2_model.specs.declared.events.Answer.TheVariants as answers;
+ghost use Rattle.f2_model.specs.declared.events.Event.TheVariants as events;
 ghost use Rattle.f2_plain.specs.Choosing.{ComesTo};
 ghost use Rattle.f2_plain.specs.Going.{MayTick, TicksTo};
 ghost use Rattle.f2_plain.specs.Sound.{IsSound};
 
-use crate::begins::MOST_ENTRIES;
-use crate::events::Choices;
-use f2_model::Tick;
+use crate::choices::Choices;
+use f2_model::{MOST_ENTRIES, Mode, Tick};
 use f2_plain_reasons::owed;
-use f2_plain_state::{Mode, Plain};
+use f2_plain_state::Plain;
 use std::alloc::{AllocError, Global};
 
 /// The flusher writes a page where its zone has room.
@@ -43,14 +44,14 @@ fn tick_node(alloc: Global, plain: &mut Plain, node: (u32, u32)) -> Result<Tick,
     if plain.node_writes() as u128 + owed.nodes >= u128::from(plain.limits().nodes) {
         return Ok(Tick::Room);
     }
-    plain.node_written(node.0, node.1)?;
+    plain.node_logged(node.0, node.1)?;
     Ok(Tick::Node)
 }
 
 /// One event of the flusher. Where memory is refused nothing changed.
 pub(crate) fn tick(alloc: Global, plain: &mut Plain, choices: Choices) -> Result<Tick, AllocError>
     requires sound { IsSound plain.old }
-    ensures ok { IfOk result (λ tick. ComesTo choices plain.old plain.new machine.Tick (machine.Ticked tick)) }
+    ensures ok { IfOk result (λ tick. ComesTo choices plain.old plain.new events.Tick (answers.Ticked tick)) }
     ensures err { OnErr result (plain.new ≡ plain.old) }
     ensures sound { IsSound plain.new }
 {

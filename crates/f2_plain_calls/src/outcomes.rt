@@ -1,7 +1,7 @@
 //! The reply to a call, and the tree after it.
 ghost use Rattle.std.specs.Prelude.{◌≡◌, ◌≤◌, IfOk, nat_lt};
 ghost use Rattle.std.specs.Bool.{then_some};
-ghost use Rattle.f2_model.specs.Call.{outcome, space_refusal};
+ghost use Rattle.f2_model.specs.Call.{outcome, space_refusal, space_wanted};
 ghost use Rattle.f2_model.specs.declared.replies.Reply.TheVariants.{NoSpace};
 ghost use Rattle.f2_plain_calls.specs.Given.{MOST_SIZE, IsFitting};
 
@@ -44,6 +44,22 @@ pub fn space_refusal(
     beyond(Space::Data, blocks, limits.data_blocks)
 }
 
+/// The refusal of a call for want of space, where the tree after it is given. An fsync and a sync want none for the
+/// tree, since they don't change it.
+fn space_wanted(
+    alloc: Global,
+    limits: Limits,
+    after: &Tree,
+    request: &Request,
+) -> Result<Option<Reply>, AllocError>
+    ensures { IfOk result (λ told. told ≡ space_wanted limits after.now request.now) }
+{
+    match request {
+        Request::Fsync { .. } | Request::Sync => Ok(None),
+        _ => space_refusal(alloc, limits, after),
+    }
+}
+
 /// The reply to a call, and the tree after it: the first refusal that holds, with an equal tree, or want of space,
 /// else what the call gives and does; a new row gets the ino.
 pub fn outcome(
@@ -62,7 +78,7 @@ pub fn outcome(
         return Ok((refused, copy_tree(alloc, tree)?));
     }
     let after = effect(alloc, limits, tree, request, ino)?;
-    match space_refusal(alloc, limits, &after)? {
+    match space_wanted(alloc, limits, &after, request)? {
         Some(refused) => Ok((refused, copy_tree(alloc, tree)?)),
         None => Ok((answer(alloc, tree, request)?, after)),
     }

@@ -5,7 +5,7 @@ ghost use Rattle.f2_plain_state.specs.Parts.{flight_of};
 ghost use Rattle.f2_plain_reasons.specs.Boths.{both_of};
 
 use crate::boths::Both;
-use f2_plain_state::{Flight, Part, Plain};
+use f2_plain_state::{Flight, Part, Plain, Progress};
 use std::alloc::{AllocError, Global};
 
 /// What one more fsync of a file has to write: its dirty pages, and its dirty direct nodes and the inode.
@@ -29,8 +29,10 @@ fn owed_by(plain: &Plain, flight: Flight) -> Both
     match flight {
         Flight::Fsync {
             ino,
-            part: Part::Marked,
-            ..
+            progress: Progress {
+                part: Part::Marked,
+                ..
+            },
         } => Both {
             nodes: plain.dirty_nodes().count_of(ino) as u128,
             pages: plain.dirty_pages().count_of(ino) as u128,

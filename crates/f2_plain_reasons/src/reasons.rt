@@ -7,8 +7,7 @@ ghost use Rattle.f2_model.specs.Fallback as machine;
 
 use crate::holding::held;
 use crate::owing::{needed, owed};
-use f2_model::{Kind, Reason, Row, Tree};
-use f2_plain_calls::ROOT;
+use f2_model::{Kind, ROOT, Reason, Row, Tree};
 use f2_plain_state::{Mark, Plain};
 use std::alloc::{AllocError, Global};
 

@@ -11,8 +11,7 @@ use Rattle.std.specs.FinMap as finite
 use Rattle.std.specs.FinMap.{FinMap, from_entries}
 use Rattle.f2_model.proofs.MapViews.{shown, entries-seen, seen-remove}
 use Rattle.f2_model.specs.State.{Flight}
-use Rattle.std.specs.Map.Iter.{TakesFirst, deref}
-use Rattle.std.specs.Option.{option_copied}
+use Rattle.std.specs.Map.Iter.{TakesFirst}
 use Rattle.f2_model.specs.Step.{first_key}
 
 keys_of-shown : {A X : Type 0} (f : A → X) (es : List (ℕ × A)) → keys_of (shown f es) ≡ keys_of es

@@ -10,7 +10,7 @@ ghost use Rattle.f2_plain_state.specs.Seen.{told};
 use crate::inos::Inos;
 use crate::pairs::Pairs;
 use crate::plain::Plain;
-use f2_model::{Entry, Outcome, Request, Row, Tree};
+use f2_model::{BoxedRequest, Entry, Outcome, Row, Tree};
 use std::alloc::{AllocError, Global};
 
 /// The direct nodes that pages stand in.
@@ -81,7 +81,7 @@ fn copy_with(inos: &Inos, so: bool, ino: u32) -> Result<Inos, AllocError>
 #[derive(Debug, Drop)]
 pub struct Call {
     pub seat: u8,
-    pub request: Request,
+    pub request: BoxedRequest,
     pub outcome: Outcome,
 }
 

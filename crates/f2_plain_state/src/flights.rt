@@ -1,10 +1,11 @@
 //! Calls in flight.
-ghost use Rattle.std.specs.Prelude.{◌≡◌, IsSome, OnOk, OnErr, IfOk, map as map_list};
+ghost use Rattle.std.specs.Prelude.{◌≡◌, nat_lt, IsSome, OnOk, OnErr, IfOk, map as map_list};
 ghost use Rattle.std.specs.List.{filter, filter_map};
 ghost use Rattle.std.specs.Option.{option_map};
 ghost use Rattle.std.specs.FinMap as map;
 ghost use Rattle.f2_model.specs.Fallback.{frozen_ino};
-ghost use Rattle.f2_model.specs.Step.{first_key, is_check, freezes};
+ghost use Rattle.f2_model.specs.Lists.{least_number};
+ghost use Rattle.f2_model.specs.Step.{first_key, is_check, freezes, open_position};
 ghost use Rattle.f2_plain_state.specs.Parts.{flight_of};
 
 use f2_model::Plan;
@@ -20,11 +21,39 @@ pub enum Part {
     Marked,
 }
 
+/// What is to be written at a position of the node log that was drawn.
+#[derive(Clone, Copy, Debug, PartialEq, Eq)]
+pub enum Drawn {
+    /// The direct node of the file with this offset.
+    Node(u32),
+    /// The marked inode of the file.
+    Mark,
+}
+
+/// A position of the node log that was drawn and isn't written yet.
+#[derive(Clone, Copy, Debug, PartialEq, Eq)]
+pub struct Slot {
+    pub position: u32,
+    pub drawn: Drawn,
+}
+
+/// What an fsync has done so far.
+#[derive(Clone, Copy, Debug, PartialEq, Eq)]
+pub struct Progress {
+    pub part: Part,
+    /// The place of its mark among the marks, once it is drawn.
+    pub place: usize,
+    /// The position of its mark in the node log, once it is drawn.
+    pub position: u32,
+    /// Its open position: one that was drawn and whose block isn't written.
+    pub slot: Option<Slot>,
+}
+
 /// A call in flight.
 #[derive(Clone, Copy, Debug, PartialEq, Eq)]
 pub enum Flight {
-    /// An fsync of a file; `place` is that of its mark among the marks, once it is there.
-    Fsync { ino: u32, part: Part, place: usize },
+    /// An fsync of a file.
+    Fsync { ino: u32, progress: Progress },
     /// A checkpoint.
     Check { plan: Plan },
 }
@@ -50,6 +79,16 @@ impl Flight {
     {
         match self {
             Flight::Fsync { ino, .. } => Some(*ino),
+            Flight::Check { .. } => None,
+        }
+    }
+
+    /// The position that it has open.
+    pub fn open_position(&self) -> Option<u32>
+        ensures { result ≡ open_position (flight_of self.now) }
+    {
+        match self {
+            Flight::Fsync { progress, .. } => progress.slot.map(|slot| slot.position),
             Flight::Check { .. } => None,
         }
     }
@@ -158,6 +197,17 @@ impl Flights {
             .values()
             .filter_map(|flight| flight.frozen_ino())
             .collect(alloc)
+    }
+
+    /// The least open position below another one.
+    pub fn gap_below(&self, position: u32) -> Option<u32>
+        ensures { result ≡ least_number (filter (λ open_one. nat_lt open_one position) (filter_map open_position (map.values self.now))) }
+    {
+        self.flights
+            .values()
+            .filter_map(|flight| flight.open_position())
+            .filter(|open_one| *open_one < position)
+            .min()
     }
 
     /// The calls, by rising seat.

@@ -2,14 +2,13 @@
 ghost use Rattle.std.specs.Prelude.{◌≡◌, [], length, map as map_list};
 ghost use Rattle.std.specs.Option.{option_copied};
 ghost use Rattle.f2_model.specs.State.{initial};
-ghost use Rattle.f2_plain_state.specs.Parts.{mode_of, mark_of};
+ghost use Rattle.f2_plain_state.specs.Parts.{mark_of};
 
 use crate::flights::Flights;
 use crate::inos::Inos;
 use crate::marks::Mark;
-use crate::modes::Mode;
 use crate::pairs::Pairs;
-use f2_model::{Limits, Log, Tree};
+use f2_model::{Format, Limits, Log, Mode, Tree};
 use std::alloc::Global;
 use std::marker::Model;
 
@@ -22,6 +21,9 @@ pub struct Plain {
     pub(crate) marks: Vec<Mark>,
     pub(crate) acknowledged: usize,
     pub(crate) pending: Option<Tree>,
+    pub(crate) format: Format,
+    pub(crate) version: u64,
+    pub(crate) next_format: Format,
     pub(crate) mode: Mode,
     pub(crate) flights: Flights,
     pub(crate) dirty_pages: Pairs,
@@ -46,7 +48,7 @@ impl Model for Plain {
     ghost use Rattle.f2_model.specs.State as machine;
     ghost use Rattle.f2_model.specs.contracts.trees.Tree as coded_tree;
     ghost use Rattle.f2_model.specs.contracts.rows.Row as coded_row;
-    ghost use Rattle.f2_plain_state.specs.Parts.{mode_of, mark_of};
+    ghost use Rattle.f2_plain_state.specs.Parts.{mark_of};
     ghost use Rattle.f2_plain_state.specs.Seen.{Seen};
 
     ghost Value = { Seen };
@@ -64,7 +66,10 @@ impl Model for Plain {
         marks = map_list mark_of p.marks.items;
         acknowledged = p.acknowledged;
         pending = p.pending;
-        mode = mode_of p.mode;
+        format = p.format;
+        version = p.version;
+        next_format = p.next_format;
+        mode = p.mode;
         flights = p.flights;
         dirty_pages = p.dirty_pages;
         dirty_nodes = p.dirty_nodes;
@@ -84,11 +89,18 @@ impl Model for Plain {
 }
 
 impl Plain {
-    /// The state in which nothing is known but what a mount will find: a tree that is the base too, and
-    /// no mark. It takes no memory.
-    pub fn initial(alloc: Global, limits: Limits, live: Tree, base: Tree) -> Plain
+    /// The state in which nothing is known but what a mount will find: a tree that is the base too, no mark, and the
+    /// format and the version of the base's checkpoint. It takes no memory.
+    pub fn initial(
+        alloc: Global,
+        limits: Limits,
+        live: Tree,
+        base: Tree,
+        format: Format,
+        version: u64,
+    ) -> Plain
         requires { live ≡ base }
-        ensures { result ≡ record { limits = limits; state = initial base []; entries = []; choices = []; blocks = 0 } }
+        ensures { result ≡ record { limits = limits; state = initial (record { base = base; marks = []; format = format; version = version }); entries = []; choices = []; blocks = 0 } }
     {
         Plain {
             limits,
@@ -97,6 +109,9 @@ impl Plain {
             marks: Vec::new(alloc),
             acknowledged: 0,
             pending: None,
+            format,
+            version,
+            next_format: format,
             mode: Mode::Shut,
             flights: Flights::new(alloc),
             dirty_pages: Pairs::new(alloc),
@@ -154,9 +169,16 @@ impl Plain {
         self.pending.as_ref()
     }
 
+    /// The format of the base's checkpoint.
+    pub fn format(&self) -> Format
+        ensures { result ≡ self.now.state.format }
+    {
+        self.format
+    }
+
     /// Whether the volume is open.
     pub fn mode(&self) -> Mode
-        ensures { mode_of result ≡ self.now.state.mode }
+        ensures { result ≡ self.now.state.mode }
     {
         self.mode
     }
@@ -203,7 +225,7 @@ impl Plain {
         &self.logged
     }
 
-    /// The node blocks written to the node log since the last checkpoint.
+    /// The positions of the node log that were drawn since the last checkpoint.
     pub fn node_writes(&self) -> usize
         ensures { result ≡ self.now.state.node_writes }
     {

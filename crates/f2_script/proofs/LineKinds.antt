@@ -33,6 +33,12 @@ go_none texts none one h =
     let k : IsSaid (codes "go" ∷ texts) (line.Go p.0) = subst (IsSaid (codes "go" ∷ texts)) p.1 h in
     none p.0 k.1.1
 
+pub slot_none : (texts : List (List ℕ)) → ((n : ℕ) → ¬ (AreWords (Seat n ∷ []) texts)) → (one : Line) → ¬ (IsSaid (codes "slot" ∷ texts) one)
+slot_none texts none one h =
+    let p = verb_parts verb.Slot texts one h in
+    let k : IsSaid (codes "slot" ∷ texts) (line.Slot p.0) = subst (IsSaid (codes "slot" ∷ texts)) p.1 h in
+    none p.0 k.1.1
+
 pub end_none : (texts : List (List ℕ)) → ((n : ℕ) → ¬ (AreWords (Seat n ∷ []) texts)) → (one : Line) → ¬ (IsSaid (codes "end" ∷ texts) one)
 end_none texts none one h =
     let p = verb_parts verb.End texts one h in
@@ -130,6 +136,10 @@ one_said word texts (line.Go x) b h k =
     let p = verb_parts verb.Go texts b (subst (λ w. IsSaid (w ∷ texts) b) h.1.0 k) in
     let l : IsSaid (word ∷ texts) (line.Go p.0) = subst (IsSaid (word ∷ texts)) p.1 k in
     ap line.Go (one_same 1 8 x p.0 texts (omega arith) h.1.1 l.1.1) ∙ sym p.1
+one_said word texts (line.Slot x) b h k =
+    let p = verb_parts verb.Slot texts b (subst (λ w. IsSaid (w ∷ texts) b) h.1.0 k) in
+    let l : IsSaid (word ∷ texts) (line.Slot p.0) = subst (IsSaid (word ∷ texts)) p.1 k in
+    ap line.Slot (one_same 1 8 x p.0 texts (omega arith) h.1.1 l.1.1) ∙ sym p.1
 one_said word texts (line.End x) b h k =
     let p = verb_parts verb.End texts b (subst (λ w. IsSaid (w ∷ texts) b) h.1.0 k) in
     let l : IsSaid (word ∷ texts) (line.End p.0) = subst (IsSaid (word ∷ texts)) p.1 k in

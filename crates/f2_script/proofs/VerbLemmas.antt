@@ -23,6 +23,7 @@ verb_at word =
     if bytes_eq word (codes "call") then Some verb.Call else
     if bytes_eq word (codes "begin") then Some verb.Begin else
     if bytes_eq word (codes "go") then Some verb.Go else
+    if bytes_eq word (codes "slot") then Some verb.Slot else
     if bytes_eq word (codes "end") then Some verb.End else
     if bytes_eq word (codes "tick") then Some verb.Tick else
     if bytes_eq word (codes "crash") then Some verb.Crash else
@@ -39,6 +40,7 @@ verb_known verb.Mkfs = refl
 verb_known verb.Call = refl
 verb_known verb.Begin = refl
 verb_known verb.Go = refl
+verb_known verb.Slot = refl
 verb_known verb.End = refl
 verb_known verb.Tick = refl
 verb_known verb.Crash = refl
@@ -62,6 +64,7 @@ verb_of (line.Mkfs blocks nat) = Some verb.Mkfs
 verb_of (line.Call seat request) = Some verb.Call
 verb_of (line.Begin seat request) = Some verb.Begin
 verb_of (line.Go seat) = Some verb.Go
+verb_of (line.Slot seat) = Some verb.Slot
 verb_of (line.End seat) = Some verb.End
 verb_of line.Tick = Some verb.Tick
 verb_of (line.Crash pick) = Some verb.Crash
@@ -78,6 +81,7 @@ first_word (line.Mkfs blocks nat) word texts h = ap verb_at h.0
 first_word (line.Call seat request) word texts h = ap verb_at h.0
 first_word (line.Begin seat request) word texts h = ap verb_at h.0
 first_word (line.Go seat) word texts h = ap verb_at h.0
+first_word (line.Slot seat) word texts h = ap verb_at h.0
 first_word (line.End seat) word texts h = ap verb_at h.0
 first_word line.Tick word texts h = ap verb_at h.0
 first_word (line.Crash pick) word texts h = ap verb_at h.0
@@ -95,6 +99,7 @@ IsOfVerb (Some verb.Mkfs) one = (blocks nat : ℕ) × (one ≡ line.Mkfs blocks 
 IsOfVerb (Some verb.Call) one = (seat : ℕ) × (request : Request) × (one ≡ line.Call seat request)
 IsOfVerb (Some verb.Begin) one = (seat : ℕ) × (request : Request) × (one ≡ line.Begin seat request)
 IsOfVerb (Some verb.Go) one = (seat : ℕ) × (one ≡ line.Go seat)
+IsOfVerb (Some verb.Slot) one = (seat : ℕ) × (one ≡ line.Slot seat)
 IsOfVerb (Some verb.End) one = (seat : ℕ) × (one ≡ line.End seat)
 IsOfVerb (Some verb.Tick) one = one ≡ line.Tick
 IsOfVerb (Some verb.Crash) one = (pick : ℕ) × (one ≡ line.Crash pick)
@@ -111,6 +116,7 @@ of_verb (line.Mkfs blocks nat) = (blocks, nat, refl)
 of_verb (line.Call seat request) = (seat, request, refl)
 of_verb (line.Begin seat request) = (seat, request, refl)
 of_verb (line.Go seat) = (seat, refl)
+of_verb (line.Slot seat) = (seat, refl)
 of_verb (line.End seat) = (seat, refl)
 of_verb line.Tick = refl
 of_verb (line.Crash pick) = (pick, refl)
@@ -132,6 +138,7 @@ verb_first (line.Mkfs blocks nat) word texts h = (verb.Mkfs, h.0)
 verb_first (line.Call seat request) word texts h = (verb.Call, h.0)
 verb_first (line.Begin seat request) word texts h = (verb.Begin, h.0)
 verb_first (line.Go seat) word texts h = (verb.Go, h.0)
+verb_first (line.Slot seat) word texts h = (verb.Slot, h.0)
 verb_first (line.End seat) word texts h = (verb.End, h.0)
 verb_first line.Tick word texts h = (verb.Tick, h.0)
 verb_first (line.Crash pick) word texts h = (verb.Crash, h.0)

@@ -7,7 +7,7 @@ use Rattle.f2_model.specs.declared.requests.Piece.{Piece}
 use Rattle.f2_model.specs.declared.requests.Request.{Request}
 use Rattle.f2_model.specs.declared.requests.Request.TheVariants.{Create, Mkdir, Write, Truncate, Unlink, Rmdir, Rename, Read, List as ListNames, Fsync, Sync}
 use Rattle.f2_script.specs.declared.script.Line.{Line}
-use Rattle.f2_script.specs.declared.script.Line.TheVariants.{Skipped, Mkfs, Call, Begin, Go, End, Tick, Crash, Fail, Stop, Mount, Unmount, Tree, Gen}
+use Rattle.f2_script.specs.declared.script.Line.TheVariants.{Skipped, Mkfs, Call, Begin, Go, Slot, End, Tick, Crash, Fail, Stop, Mount, Unmount, Tree, Gen}
 use Rattle.f2_script.specs.Words.{Word, Said, Number, Named, words_text}
 
 -- a number of 32 bits, one of 64 bits, and a seat
@@ -51,6 +51,7 @@ line_words (Mkfs blocks nat) = Said (codes "mkfs") ∷ Number32 blocks ∷ Numbe
 line_words (Call seat request) = Said (codes "call") ∷ Seat seat ∷ request_words request
 line_words (Begin seat request) = Said (codes "begin") ∷ Seat seat ∷ request_words request
 line_words (Go seat) = Said (codes "go") ∷ Seat seat ∷ []
+line_words (Slot seat) = Said (codes "slot") ∷ Seat seat ∷ []
 line_words (End seat) = Said (codes "end") ∷ Seat seat ∷ []
 line_words Tick = Said (codes "tick") ∷ []
 line_words (Crash pick) = Said (codes "crash") ∷ Number64 pick ∷ []

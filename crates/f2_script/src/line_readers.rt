@@ -89,6 +89,14 @@ fn go_of(words: &[&[u8]]) -> Option<Line>
     Some(Line::Go { seat: seat as u8 })
 }
 
+/// The `slot` line that ends in these words.
+fn slot_of(words: &[&[u8]]) -> Option<Line>
+    ensures { Finds (IsSaid (codes "slot" ∷ shown words.now)) result }
+{
+    let seat = one_number(words, 1, LAST_SEAT)?;
+    Some(Line::Slot { seat: seat as u8 })
+}
+
 /// The `end` line that ends in these words.
 fn end_of(words: &[&[u8]]) -> Option<Line>
     ensures { Finds (IsSaid (codes "end" ∷ shown words.now)) result }
@@ -171,6 +179,7 @@ fn line_after(alloc: Global, verb: Verb, words: &[&[u8]]) -> Result<Option<Line>
         Verb::Call => call_of(alloc, words),
         Verb::Begin => begin_of(alloc, words),
         Verb::Go => Ok(go_of(words)),
+        Verb::Slot => Ok(slot_of(words)),
         Verb::End => Ok(end_of(words)),
         Verb::Tick => Ok(bare_of(Line::Tick, words)),
         Verb::Crash => Ok(crash_of(words)),

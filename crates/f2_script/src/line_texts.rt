@@ -117,6 +117,7 @@ pub fn line_text(alloc: Global, line: &Line) -> Result<Vec<u8>, AllocError>
         Line::Call { seat, request } => with_call(alloc, Verb::Call.word(), *seat, request),
         Line::Begin { seat, request } => with_call(alloc, Verb::Begin.word(), *seat, request),
         Line::Go { seat } => with_number(alloc, Verb::Go.word(), u64::from(*seat)),
+        Line::Slot { seat } => with_number(alloc, Verb::Slot.word(), u64::from(*seat)),
         Line::End { seat } => with_number(alloc, Verb::End.word(), u64::from(*seat)),
         Line::Tick => Vec::from_slice(alloc, Verb::Tick.word()),
         Line::Crash { pick } => with_number(alloc, Verb::Crash.word(), *pick),

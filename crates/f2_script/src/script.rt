@@ -29,9 +29,11 @@ pub enum Line {
     Call { seat: u8, request: Request },
     /// The beginning of an fsync or a sync by a seat, 1 to 8, which stays in flight.
     Begin { seat: u8, request: Request },
-    /// The next event of a seat's call in flight.
+    /// The next events of a seat's call in flight, up to one that does more than draw a position of the node log.
     Go { seat: u8 },
-    /// The rest of a seat's call in flight.
+    /// The next event of a seat's call in flight, where that draws a position of the node log.
+    Slot { seat: u8 },
+    /// The rest of a seat's call in flight, up to one that has to wait.
     End { seat: u8 },
     /// One step of the flusher.
     Tick,

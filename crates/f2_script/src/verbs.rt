@@ -10,6 +10,7 @@ pub enum Verb {
     Call,
     Begin,
     Go,
+    Slot,
     End,
     Tick,
     Crash,
@@ -37,11 +38,12 @@ pub enum Op {
     Sync,
 }
 
-const VERBS: [Verb; 13] = [
+const VERBS: [Verb; 14] = [
     Verb::Mkfs,
     Verb::Call,
     Verb::Begin,
     Verb::Go,
+    Verb::Slot,
     Verb::End,
     Verb::Tick,
     Verb::Crash,
@@ -77,6 +79,7 @@ impl Verb {
             Verb::Call => b"call",
             Verb::Begin => b"begin",
             Verb::Go => b"go",
+            Verb::Slot => b"slot",
             Verb::End => b"end",
             Verb::Tick => b"tick",
             Verb::Crash => b"crash",

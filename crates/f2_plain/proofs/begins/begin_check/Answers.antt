@@ -11,5 +11,5 @@ returns-in-Some-clause-ok c =
 
 pub returns-clause-ok : goal.returns-clause-ok
 returns-clause-ok c =
-    check_begun c.args.choices c.args.plain.now c.begins_check.new.self c.args.seat c.args.request c.args.plan c.requires
+    check_begun c.args.choices c.args.plain.now c.begins_check.new.self c.args.seat c.args.request c.args.plan c.requires.check c.requires.rowless
     (ap (λ flights. first_key (map.entries flights)) (sym c.flights.ensures) ∙ sym c.in_default.ensures) c.in_ok-begins_check.ensures.ok

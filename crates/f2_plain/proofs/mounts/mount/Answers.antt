@@ -1,12 +1,15 @@
-use Rattle.std.proofs.Common.{◌≡◌, [], sym, ap, subst, ◌∙◌, refl}
+use Rattle.std.proofs.Common.{◌≡◌, sym, ap, subst, ◌∙◌, refl}
 use Rattle.std.specs.Prelude.{Bool, true, false, cond, not, Option, Some, None, if◌then◌else◌}
-use Rattle.f2_model.specs.Step.{found, is_shut, Mount}
+use Rattle.f2_model.specs.State.{base_up_to, pending_with}
+use Rattle.f2_model.specs.Step.{found, is_shut}
+use Rattle.f2_model.specs.declared.events.Event.TheVariants.{Mount}
 use Rattle.f2_plain_state.specs.Seen.{after_turn}
-use Rattle.f2_plain.specs.Choosing.{marks_left, ComesTo}
-use Rattle.f2_plain.specs.Sound.{IsSound}
+use Rattle.f2_plain.specs.Choosing.{place_left, ComesTo}
+use Rattle.f2_plain.specs.Sound.{IsFittingMark, IsSound}
 use Rattle.f2_plain.proofs.MountModes.{not_shut}
 use Rattle.f2_plain.proofs.MountComes.{comes_mounted, comes_pending, comes_marks}
-use Rattle.f2_plain.proofs.MountSound.{after_ok, either_way, all_left, found_sound}
+use Rattle.f2_plain.proofs.MountRolls.{all_taken}
+use Rattle.f2_plain.proofs.MountSound.{after_ok, either_way, found_sound}
 use Rattle.f2_plain.proofs.mounts.mount.Goals as goal
 use Rattle.f2_plain.proofs.mounts.mount.Goals.{in_default-via-in-Some+else-choices, in_default-via-in_default}
 
@@ -25,7 +28,7 @@ returns-in_ok-finds_pending-in-Some-clause-ok c =
     let shut : not (is_shut old.state.mode) ≡ false = not_shut c.mode.result _ c.ne.result false c.mode.ensures c.ne.ensures c.if-ne.false in
     let there : old.state.pending ≡ Some c.in-Some.tree.now = sym c.in-Some.ensures in
     comes_pending c.args.choices old c.finds_pending.new.self c.in-Some.tree.now shut c.if-choices.true there
-    (c.in_ok-finds_pending-in-Some.ensures.ok ∙ ap (λ tree. record (after_turn old (found old.state tree [] 1)) { blocks = c.args.choices.blocks }) c.in_ok-base-in-Some.ensures)
+    (c.in_ok-finds_pending-in-Some.ensures.ok ∙ ap (λ tree. record (after_turn old (found old.state (pending_with old.state tree) 1)) { blocks = c.args.choices.blocks }) c.in_ok-base-in-Some.ensures)
 
 pub returns-in_default-clause-ok : goal.returns-in_default-clause-ok
 returns-in_default-clause-ok c =
@@ -45,5 +48,5 @@ returns-in_default-clause-sound c =
     let old = c.args.plain.now in
     let choices = c.args.choices in
     either_way c.find_marks.result _ _ _ c.find_marks.ensures.ok c.find_marks.ensures.err
-    (λ after. subst IsSound (sym after) (found_sound old old.state.base (marks_left choices.marks old.state) 0 choices.blocks c.requires.sound c.requires.sound.base (all_left choices.marks old.state c.requires.sound.marks)))
+    (λ after. subst IsSound (sym after) (found_sound old (base_up_to old.state (place_left choices.marks old.state)) 0 choices.blocks c.requires.sound c.requires.sound.base (all_taken IsFittingMark (place_left choices.marks old.state) old.state.marks c.requires.sound.marks)))
     (λ same. subst IsSound (sym same) c.requires.sound)

@@ -1,6 +1,5 @@
 use Rattle.std.proofs.Common.{◌≡◌, true, false, not, nat_le, is_some, None, arith, sym, ap, ◌∙◌, rules}
-use Rattle.f2_model.specs.Step as machine
-use Rattle.f2_model.specs.Step.{checking_seat, is_clean, least_thawed, MOST_ENTRIES}
+use Rattle.f2_model.specs.Step.{is_up, checking_seat, is_clean, least_thawed, MOST_ENTRIES}
 use Rattle.f2_plain.specs.Going.{MayTick}
 use Rattle.f2_plain.proofs.GoSteps.{up_told}
 use Rattle.f2_plain.proofs.TickSteps.{is_up_to, is_past, closed-TicksTo, spent-TicksTo, checked-TicksTo, clean-TicksTo, frozen-TicksTo}
@@ -9,19 +8,19 @@ use Rattle.f2_plain.proofs.ticks.tick.Goals as goal
 pub returns-then-ne-clause-ok : goal.returns-then-ne-clause-ok
 returns-then-ne-clause-ok c =
     let old = c.args.plain.now in
-    let closed : not (machine.is_up old.state.mode) ≡ true = ap (λ m. not (machine.is_up m)) (sym c.mode.ensures) ∙ ap not (sym (up_told c.mode.result)) ∙ sym c.if-ne.ensures in
+    let closed : not (is_up old.state.mode) ≡ true = ap (λ m. not (is_up m)) (sym c.mode.ensures) ∙ ap not (sym (up_told c.mode.result)) ∙ sym c.if-ne.ensures in
     closed-TicksTo old closed c.args.choices
 
 pub returns-then-entries-ge-MOST_ENTRIES-clause-ok : goal.returns-then-entries-ge-MOST_ENTRIES-clause-ok
 returns-then-entries-ge-MOST_ENTRIES-clause-ok c =
     let old = c.args.plain.now in
-    let up : not (machine.is_up old.state.mode) ≡ false = ap (λ m. not (machine.is_up m)) (sym c.mode.ensures) ∙ ap not (sym (up_told c.mode.result)) ∙ sym c.if-ne.ensures in
+    let up : not (is_up old.state.mode) ≡ false = ap (λ m. not (is_up m)) (sym c.mode.ensures) ∙ ap not (sym (up_told c.mode.result)) ∙ sym c.if-ne.ensures in
     spent-TicksTo old up (is_up_to _ _ (omega (arith, c.entries.ensures, c.if-entries-ge-MOST_ENTRIES.true))) c.args.choices
 
 pub returns-then-is_some-clause-ok : goal.returns-then-is_some-clause-ok
 returns-then-is_some-clause-ok c =
     let old = c.args.plain.now in
-    let up : not (machine.is_up old.state.mode) ≡ false = ap (λ m. not (machine.is_up m)) (sym c.mode.ensures) ∙ ap not (sym (up_told c.mode.result)) ∙ sym c.if-ne.ensures in
+    let up : not (is_up old.state.mode) ≡ false = ap (λ m. not (is_up m)) (sym c.mode.ensures) ∙ ap not (sym (up_told c.mode.result)) ∙ sym c.if-ne.ensures in
     let early : nat_le MOST_ENTRIES old.state.entries ≡ false = is_past _ _ (omega (arith, c.entries.ensures, c.if-entries-ge-MOST_ENTRIES.false)) in
     let checked : is_some (checking_seat old.state) ≡ true = search rules in
     checked-TicksTo old up early checked c.args.choices
@@ -29,7 +28,7 @@ returns-then-is_some-clause-ok c =
 pub returns-then-is_empty-2-clause-ok : goal.returns-then-is_empty-2-clause-ok
 returns-then-is_empty-2-clause-ok c =
     let old = c.args.plain.now in
-    let up : not (machine.is_up old.state.mode) ≡ false = ap (λ m. not (machine.is_up m)) (sym c.mode.ensures) ∙ ap not (sym (up_told c.mode.result)) ∙ sym c.if-ne.ensures in
+    let up : not (is_up old.state.mode) ≡ false = ap (λ m. not (is_up m)) (sym c.mode.ensures) ∙ ap not (sym (up_told c.mode.result)) ∙ sym c.if-ne.ensures in
     let early : nat_le MOST_ENTRIES old.state.entries ≡ false = is_past _ _ (omega (arith, c.entries.ensures, c.if-entries-ge-MOST_ENTRIES.false)) in
     let alone : is_some (checking_seat old.state) ≡ false = search rules in
     let clean : is_clean old.state ≡ true = search rules in

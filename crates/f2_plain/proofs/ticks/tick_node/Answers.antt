@@ -18,4 +18,4 @@ returns-clause-ok c =
     let told = ap (λ (both : Both). both.nodes) c.in_ok-owed.ensures.exact in
     let granted = ap (λ (limits : Limits). limits.nodes) c.limits.ensures in
     let fits : old.state.node_writes + (owed old.state).nodes < old.limits.nodes = omega (arith, told, granted, c.node_writes.ensures, c.from.ensures, c.if-node_writes-owed.false) in
-    node-TicksTo old c.requires.may c.args.node c.requires.no_page c.requires.node c.node_written.new.self (is_below _ _ fits) c.in_ok-node_written.ensures.ok
+    node-TicksTo old c.requires.may c.args.node c.requires.no_page c.requires.node c.node_logged.new.self (is_below _ _ fits) c.in_ok-node_logged.ensures.ok

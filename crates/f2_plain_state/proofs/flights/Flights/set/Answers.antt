@@ -1,4 +1,4 @@
-use Rattle.std.proofs.Common.{◌≡◌, ◌∙◌, ap, sym, subst, IsSome}
+use Rattle.std.proofs.Common.{◌∙◌, ap, sym}
 use Rattle.std.specs.Option.{option_map}
 use Rattle.f2_model.proofs.MapViews.{lookup-shown_seen, shown_seen-insert}
 use Rattle.f2_plain_state.specs.Parts.{flight_of}

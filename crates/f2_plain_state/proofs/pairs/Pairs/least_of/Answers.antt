@@ -1,4 +1,4 @@
-use Rattle.std.proofs.Common.{ℕ, List, ◌==◌, ◌∙◌, ap, rules, tests}
+use Rattle.std.proofs.Common.{ℕ, ◌==◌, ◌∙◌, ap, rules, tests}
 use Rattle.std.specs.List.{find}
 use Rattle.std.proofs.lemmas.Iterator.Search.{find_from_yields_List}
 use Rattle.std.proofs.lemmas.Iterator.Consumers.{YieldsList-from_rest}
