@@ -1,2 +1,3 @@
 -- What the tests rest on.
+pub mod NatCaches
 pub mod WarmLogs

@@ -18,6 +18,8 @@ mod held;
 #[cfg(test)]
 mod index;
 #[cfg(test)]
+mod nat_cache;
+#[cfg(test)]
 mod nid_pool;
 #[cfg(test)]
 mod pages;

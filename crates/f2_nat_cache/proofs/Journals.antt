@@ -1,9 +1,8 @@
 -- The nids of a journal, read from its summary.
-use Rattle.std.proofs.Common.{◌≡◌, ℕ, zero, suc, ◌+◌, ◌-◌, ◌*◌, ◌<◌, ◌≤◌, List, [], ◌∷◌, ◌++◌, length, take, drop, map, refl, ap, sym, ◌∙◌, arith, length-append}
+use Rattle.std.proofs.Common.{◌≡◌, ℕ, ◌+◌, ◌*◌, ◌≤◌, List, [], ◌∷◌, ◌++◌, length, take, drop, map, refl, ap, sym, ◌∙◌, arith, length-append}
 use Rattle.std.specs.List.{flat_map, range_with_len}
 use Rattle.std.proofs.lemmas.List.{length-take-le, length-replicate}
 use Rattle.f2_format.specs.Bytes.{number_bytes, with_bytes, zeros}
-use Rattle.f2_format.specs.Nat.{NodePlace}
 use Rattle.f2_format.specs.Journal.{JournalList, journal_of, journal_count, journal_entry, journal_entry_bytes, summary_block}
 use Rattle.f2_format.proofs.BytesLemmas.{length-number_bytes, length-with_bytes}
 use Rattle.f2_nat_journal.proofs.ItemBytes.{length-entries}

@@ -1,5 +1,5 @@
 -- What is kept of the disk, and what a read adds to it.
-use Rattle.std.proofs.Common.{◌≡◌, ◌≢◌, ℕ, ◌⊎◌, inl, inr, List, length, true, false, cond, Option, Some, None, IfSome, IsSome, is_some, Bool, nat_eq, get_or, set, get_or-set_same, get_or-set_other, ◌<◌, replicate, Box, Global, ap, sym, subst, ◌∙◌, refl, arith}
+use Rattle.std.proofs.Common.{◌≡◌, ℕ, inl, inr, List, length, true, false, cond, Option, Some, None, IfSome, IsSome, is_some, Bool, nat_eq, get_or, set, get_or-set_same, get_or-set_other, ◌<◌, replicate, Box, Global, ap, sym, subst, ◌∙◌, refl, arith}
 use Rattle.std.specs.Prelude.{slice_index_or, map as list_map}
 use Rattle.std.specs.Option.{unwrap_or, option_or, option_map}
 use Rattle.std.specs.FinMap as map
@@ -10,10 +10,11 @@ use Rattle.f2_format.specs.Nat.{is_second_copy, nat_entry, nat_block_of, nat_pla
 use Rattle.f2_nat_block.specs.declared.entries.NatEntry.{NatEntry}
 use Rattle.f2_nat_block.specs.NatEntry.{entry_of}
 use Rattle.f2_nat_cache.specs.Entries.{Entries, MayAdd}
-use Rattle.f2_nat_cache.specs.Table.{Table, IsKept, IsTable, known, pending, entry_at, entry_in, copy_in, copy_address, held_block}
+use Rattle.f2_nat_cache.specs.Plan.{held_with_pending}
+use Rattle.f2_nat_cache.specs.Table.{Table, IsKept, known, pending, entry_at, entry_in, copy_in, copy_address, held_block, with_pending}
 use Rattle.std.proofs.lemmas.Bool.{cases_eq, cases_lt}
-use Rattle.std.proofs.lemmas.List.{map-set, get_or-replicate, get_or_past, length-replicate}
-use Rattle.f2_nat_cache.proofs.Tables.{get-insert, get-remove, eq_same}
+use Rattle.std.proofs.lemmas.List.{map-set, get_or-map, length-map, get_or-replicate, get_or_past, length-replicate}
+use Rattle.f2_nat_cache.proofs.Tables.{get-insert, get-remove}
 
 -- the entry of a nid that is known
 pub entry_known : (t : Table) (told : Option Contents) (nid : ℕ) (e : NatEntry) → known t nid ≡ Some e → IfSome told (λ lists. e ≡ entry_at t lists nid)
@@ -147,6 +148,14 @@ fewer_without old new k is nid e found = at (nat_eq nid k) (sym (ap (λ m. map.g
     at true h = cc
     at false h = h
 
+-- what is there without a nid was there before
+pub there_before : (m : Entries) (k nid : ℕ) → IsSome (map.get (map.remove m k) nid) → IsSome (map.get m nid)
+there_before m k nid there = at (map.get (map.remove m k) nid) refl there
+  where
+    at : (o : Option NatEntry) → map.get (map.remove m k) nid ≡ o → IsSome o → IsSome (map.get m nid)
+    at None e s = let wrong : ◌≡◌ false true = s in cc
+    at (Some e) is s = ap is_some (fewer_without m (map.remove m k) k refl nid e is)
+
 -- nothing is kept
 pub kept_none : (t : Table) (told : Option Contents) → ((block : ℕ) → held_block t block ≡ None) → ((nid : ℕ) → map.get t.clean nid ≡ None) → IfSome told (IsKept t)
 kept_none t None held clean = tt
@@ -164,3 +173,31 @@ none_held n block = elim (cases_lt block n) [
 
 pub same_fewer : (old new : Entries) → new ≡ old → (nid : ℕ) (e : NatEntry) → map.get new nid ≡ Some e → map.get old nid ≡ Some e
 same_fewer old new is nid e found = ap (λ m. map.get m nid) (sym is) ∙ found
+
+-- ---- a held block with its pending entries
+
+-- what is held of a block whose box was read
+pub held_read : (items : List (Option (Box (List ℕ) Global))) (block : ℕ) (o : Option (Box (List ℕ) Global)) (held : List (Option (List ℕ))) → list_map (option_map (λ (c : Box (List ℕ) Global). c.value)) items ≡ held → block < length held → o ≡ get_or items block o
+    → get_or held block None ≡ option_map (λ (c : Box (List ℕ) Global). c.value) o
+held_read items block o held is within read =
+    let long = ap (λ (h : List (Option (List ℕ))). length h) is in
+    let inside : block < length items = omega (arith, long, length-map items (option_map (λ (c : Box (List ℕ) Global). c.value))) in
+    ap (λ h. get_or h block None) (sym is) ∙ get_or-map (option_map (λ (c : Box (List ℕ) Global). c.value)) items block o None inside ∙ ap (option_map (λ (c : Box (List ℕ) Global). c.value)) (sym read)
+
+-- what is read is what it is found to be
+pub read_as : {A : Type 0} (items : List A) (i : ℕ) (read found : A) → read ≡ get_or items i read → read ≡ found → found ≡ get_or items i found
+read_as items i read found is same = subst (λ x. x ≡ get_or items i x) same is
+
+-- what is held once the block has its pending entries
+pub held_written : (t : Table) (items : List (Option (Box (List ℕ) Global))) (block : ℕ) (new : Box (List ℕ) Global) (old : List ℕ) → list_map (option_map (λ (c : Box (List ℕ) Global). c.value)) items ≡ t.held → held_block t block ≡ Some old → new.value ≡ with_pending t.dirty t.journal block old
+    → list_map (option_map (λ (c : Box (List ℕ) Global). c.value)) (set items block (Some new)) ≡ set t.held block (held_with_pending t block)
+held_written t items block new old is here written =
+    held_more items block new ∙ ap (λ h. set h block (Some new.value)) is
+    ∙ ap (λ o. set t.held block o) (ap (λ b. Some b) written ∙ sym (ap (option_map (with_pending t.dirty t.journal block)) here))
+
+-- only blocks that there are are held
+pub some_within : (held : List (Option (List ℕ))) (block : ℕ) → IsSome (get_or held block None) → block < length held
+some_within held block there = elim (cases_lt block (length held)) [
+  | inl within ↦ within
+  | inr past ↦ let wrong : ◌≡◌ false true = ap is_some (sym (get_or_past held block None past)) ∙ there in cc
+]

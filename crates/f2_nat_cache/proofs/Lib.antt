@@ -1,3 +1,5 @@
+pub mod Afterwards
+pub mod Checkpoints
 pub mod Counts
 pub mod Found
 pub mod Journals

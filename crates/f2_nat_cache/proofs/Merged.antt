@@ -1,20 +1,18 @@
 -- A journal with all changes: its entries in their order, and the new ones by rising nid.
-use Rattle.std.proofs.Common.{◌≡◌, ◌≢◌, ℕ, zero, suc, ◌+◌, ◌-◌, ◌*◌, ◌<◌, ◌≤◌, Bool, true, false, cond, not, ◌&&◌, ◌||◌, List, [], ◌∷◌, ◌++◌, length, take, get_or, Option, Some, None, is_some, IsSome, nat_eq, refl, ap, sym, subst, ◌∙◌, inl, inr, arith, append_assoc, length-append, add-one, drop, drop-cons}
+use Rattle.std.proofs.Common.{◌≡◌, ℕ, zero, suc, ◌+◌, ◌-◌, ◌<◌, ◌≤◌, Bool, true, false, cond, not, ◌&&◌, ◌||◌, List, [], ◌∷◌, ◌++◌, length, take, get_or, Option, Some, None, is_some, IsSome, nat_eq, refl, ap, sym, subst, ◌∙◌, arith, append_assoc, length-append, add-one, drop, drop-cons}
 use Rattle.std.specs.Prelude.{map as list_map, nat_lt}
 use Rattle.std.specs.Option.{unwrap_or, option_or, option_map, is_none}
 use Rattle.std.specs.List.{count_by, list_any}
 use Rattle.std.specs.Ordering.{nat_cmp, eq_by_cmp}
-use Rattle.std.specs.declared.cmp.Ordering.{Ordering}
-use Rattle.std.specs.declared.cmp.Ordering.TheVariants.{Less, Equal, Greater}
+use Rattle.std.specs.declared.cmp.Ordering.TheVariants.{Greater}
 use Rattle.std.specs.Cmp.{nat_cmp_total, unsigned_ties}
 use Rattle.std.specs.FinMap as map
 use Rattle.std.specs.FinMap.Entries.{by_order, put}
-use Rattle.std.proofs.lemmas.Bool.{cases_eq, cases_lt}
 use Rattle.std.proofs.lemmas.Bool.Decides.{nat_tests}
 use Rattle.std.proofs.lemmas.List.{append-nil, map-append, length-map, take_more, take-append-drop}
 use Rattle.std.proofs.lemmas.List.Sums.{sum_by-cons, count_by-le-length}
 use Rattle.f2_format.specs.Nat.{NodePlace, nat_block_of}
-use Rattle.f2_format.specs.Journal.{JournalList, journal_find, journal_with}
+use Rattle.f2_format.specs.Journal.{JournalList, journal_find}
 use Rattle.f2_nat_block.specs.declared.entries.NatEntry.{NatEntry}
 use Rattle.f2_nat_block.specs.NatEntry.{entry_of, place_of}
 use Rattle.f2_nat_cache.specs.Entries.{Entries, EachOnce, nids_of, count_in}

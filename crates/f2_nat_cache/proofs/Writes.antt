@@ -1,5 +1,5 @@
 -- The pending entries of a block, written into it place by place.
-use Rattle.std.proofs.Common.{◌≡◌, ℕ, zero, suc, ◌+◌, List, refl, ap, sym, ◌∙◌, add-one}
+use Rattle.std.proofs.Common.{◌≡◌, ℕ, ◌+◌, List, refl, add-one}
 use Rattle.f2_format.specs.Journal.{JournalList}
 use Rattle.f2_nat_cache.specs.Entries.{Entries}
 use Rattle.f2_nat_cache.specs.Table.{pending, nid_at, with_entry, with_pending_below}

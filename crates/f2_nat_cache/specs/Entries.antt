@@ -1,5 +1,5 @@
 -- Entries of the node address table by their nids: those that are dirty, and those that are kept from the disk.
-use Rattle.std.specs.Prelude.{◌≡◌, ℕ, ◌*◌, ◌<◌, ◌≤◌, ◌⊎◌, ◌==◌, List, length, map as list_map, slice_index, Option, Some, IsSome, not, Bool, refl}
+use Rattle.std.specs.Prelude.{◌≡◌, ℕ, ◌*◌, ◌<◌, ◌≤◌, ◌⊎◌, ◌==◌, List, length, map as list_map, slice_index, Some, IsSome, refl}
 use Rattle.std.specs.List.{count_by}
 use Rattle.std.specs.Ordering.{nat_cmp}
 use Rattle.std.specs.Coded.{Coded, code_by, coded×, coded_ℕ}

@@ -1,15 +1,16 @@
 -- What a checkpoint writes of the node address table (f2fs_flush_nat_entries of node.c): all that changed into the
 -- journal, where that has room for it, else each block with a change.
-use Rattle.std.specs.Prelude.{ℕ, ◌+◌, ◌==◌, Bool, ◌&&◌, ◌||◌, not, nat_lt, nat_le, if◌then◌else◌, List, [], ◌++◌, map as list_map, filter, fold, length}
+use Rattle.std.specs.Prelude.{◌≡◌, ℕ, ◌+◌, ◌<◌, ◌==◌, Bool, false, IsTrue, Option, Some, ◌&&◌, ◌||◌, not, nat_lt, nat_le, if◌then◌else◌, List, [], ◌++◌, map as list_map, filter, fold, length}
 use Rattle.std.specs.List.{count_by, list_any, range_with_len}
 use Rattle.std.specs.Option.{is_none, option_map, unwrap_or}
 use Rattle.std.specs.FinMap as map
+use Rattle.f2_disk.specs.Contents.{Contents}
 use Rattle.f2_format.specs.Nat.{NodePlace, nat_block_of, with_other_copy}
 use Rattle.f2_format.specs.Journal.{JournalList, MOST_JOURNAL_ENTRIES, journal_find}
 use Rattle.f2_nat_block.specs.NatEntry.{place_of}
 use Rattle.f2_nat_cache.specs.declared.cache.CpNat.{CpNat}
 use Rattle.f2_nat_cache.specs.Entries.{Entries, count_in, nids_of}
-use Rattle.f2_nat_cache.specs.Table.{Table}
+use Rattle.f2_nat_cache.specs.Table.{Table, copy_in, held_block, with_pending}
 
 -- a nid that a journal has no entry of
 abbrev pub is_new : JournalList → ℕ → Bool
@@ -78,3 +79,30 @@ bitmap_after table = if fits_journal table then table.bitmap else flipped table.
 -- the journal of the checkpoint: that with all changes, or an empty one where blocks are written
 abbrev pub journal_after : Table → JournalList
 journal_after table = if fits_journal table then merged table.dirty table.journal else []
+
+-- a checkpoint writes the block: it has a pending entry, and not all that changed has room in the journal
+abbrev pub is_written : Table → ℕ → Bool
+is_written table block = not (fits_journal table) && is_pending_block table block
+
+-- what is held of a block, with its pending entries
+abbrev pub held_with_pending : Table → ℕ → Option (List ℕ)
+held_with_pending table block = option_map (with_pending table.dirty table.journal block) (held_block table block)
+
+-- what is held of a block once all blocks with a pending entry have theirs
+abbrev pub held_then : Table → ℕ → Option (List ℕ)
+held_then table block = if is_pending_block table block then held_with_pending table block else held_block table block
+
+-- what is held after the checkpoint, block by block: of the blocks that it writes what it wrote
+abbrev pub held_after : Table → List (Option (List ℕ))
+held_after table = if fits_journal table then table.held else list_map (held_then table) (range_with_len 0 table.extent.nat)
+
+-- THE TABLE AFTER THE CHECKPOINT: nothing is dirty, and bitmap, journal and held blocks are what it wrote
+abbrev pub checkpointed : Table → Table
+checkpointed table = record table { bitmap = bitmap_after table; journal = journal_after table; dirty = map.empty; held = held_after table }
+
+-- What the checkpoint does to the contents of a disk: what is held of each block that it writes stands, with the block's
+-- pending entries, in the copy that counts from then on, and of each other block the copy that counts is as before.
+pub record HasWritten (table : Table) (before after : Contents) : Type 0 where
+  pub written : (block : ℕ) (content : List ℕ) → block < table.extent.nat → IsTrue (is_written table block) → held_block table block ≡ Some content
+      → copy_in (checkpointed table) after block ≡ with_pending table.dirty table.journal block content
+  pub others : (block : ℕ) → block < table.extent.nat → is_written table block ≡ false → copy_in table after block ≡ copy_in table before block

@@ -10,7 +10,7 @@ use Rattle.f2_format.specs.Nat.{nat_entry, with_nat_entry, nat_block_of, nat_pla
 use Rattle.f2_format.specs.Journal.{JournalList, journal_find}
 use Rattle.f2_nat_block.specs.declared.entries.NatEntry.{NatEntry}
 use Rattle.f2_nat_block.specs.NatEntry.{entry_of, place_of}
-use Rattle.f2_nat_cache.specs.Entries.{Entries, entries_code, CleanTable, IsBounded}
+use Rattle.f2_nat_cache.specs.Entries.{Entries, entries_code}
 
 -- What is kept. `bitmap` and `journal` are those of the last checkpoint, `dirty` are the entries that were put since
 -- then. `held` has, block by block, the copy that counts, where it is held. `clean` are at most `room` entries of other
@@ -76,14 +76,15 @@ pub record IsKept (table : Table) (lists : Contents) : Type 0 where
   pub held : (block : ℕ) (content : List ℕ) → held_block table block ≡ Some content → content ≡ copy_in table lists block
   pub clean : (nid : ℕ) (entry : NatEntry) → map.get table.clean nid ≡ Some entry → entry ≡ entry_in (copy_in table lists (nat_block_of nid)) nid
 
--- What the parts of a table keep: dirty entries and held blocks are counted by the same sizes, no dirty entry is past the
--- table, and no clean entry is of a nid with a pending one.
+-- What the parts of a table keep: dirty entries and held blocks are counted by the same sizes, no dirty and no clean
+-- entry is past the table, and no clean entry is of a nid with a pending one.
 pub record IsTable (table : Table) (nat : ℕ) : Type 0 where
   pub sizes : nat ≡ table.extent.nat
   pub geometry : IsGeometry table.extent
   pub blocks : length table.held ≡ table.extent.nat
   pub within : (nid : ℕ) → IsSome (map.get table.dirty nid) → nid < nid_limit table.extent
   pub bounded : map.len table.clean ≤ table.room
+  pub clean_within : (nid : ℕ) → IsSome (map.get table.clean nid) → nid < nid_limit table.extent
   pub apart : (nid : ℕ) → IsSome (map.get table.clean nid) → pending table.dirty table.journal nid ≡ None
 
 -- the nid of a place of a block
@@ -103,3 +104,7 @@ with_pending_below dirty journal block content (suc place) = with_entry (with_pe
 -- a block with all its pending entries, each at its place
 abbrev pub with_pending : Entries → JournalList → ℕ → List ℕ → List ℕ
 with_pending dirty journal block content = with_pending_below dirty journal block content ENTRIES_A_NAT_BLOCK
+
+-- a block with its pending entries tells each of them, and of the other nids what it told
+pub record TellsPending (table : Table) (block : ℕ) (content : List ℕ) : Type 0 where
+  pub told : (place : ℕ) → place < ENTRIES_A_NAT_BLOCK → entry_of (nat_entry (with_pending table.dirty table.journal block content) place) ≡ unwrap_or (pending table.dirty table.journal (nid_at block place)) (entry_of (nat_entry content place))

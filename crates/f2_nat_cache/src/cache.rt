@@ -24,7 +24,7 @@ use f2_nat_journal::Journal;
 use std::alloc::{AllocError, Global};
 use std::marker::Model;
 
-const MOST_JOURNAL_ENTRIES: usize = 38;
+pub(crate) const MOST_JOURNAL_ENTRIES: usize = 38;
 
 /// What a checkpoint writes of the node address table.
 #[derive(Clone, Copy, Debug, PartialEq, Eq)]
@@ -38,11 +38,11 @@ pub struct CpNat {
 /// The node address table of a running volume.
 #[derive(Drop)]
 pub struct Cache {
-    geometry: Geometry,
-    bitmap: Bitmap,
-    journal: KnownJournal,
-    dirty: DirtyEntries,
-    held: Vec<Option<Box<Block>>>,
+    pub(crate) geometry: Geometry,
+    pub(crate) bitmap: Bitmap,
+    pub(crate) journal: KnownJournal,
+    pub(crate) dirty: DirtyEntries,
+    pub(crate) held: Vec<Option<Box<Block>>>,
     clean: CleanEntries,
     alloc: Global,
 }
@@ -82,7 +82,7 @@ impl Cache {
         Ok(Cache {
             geometry: *g,
             bitmap,
-            journal: KnownJournal::new(alloc, journal)?,
+            journal: KnownJournal::new(journal),
             dirty: DirtyEntries::new(alloc, nat)?,
             held,
             clean: CleanEntries::new(alloc, room)?,
@@ -207,9 +207,10 @@ impl Cache {
     }
 
     /// The journal of the checkpoint that [`Cache::plan`] tells of: the old one with each dirty entry in place of its
-    /// nid's, or else appended by rising nid; an empty one where blocks are written.
+    /// nid's, or else appended by rising nid; an empty one where blocks are written. Each nid stands once.
     pub fn journal(&self) -> Journal
-        ensures { result ≡ journal_after self.now }
+        ensures value { result ≡ journal_after self.now }
+        ensures once { EachOnce result }
     {
         if self.needed() > MOST_JOURNAL_ENTRIES {
             return Journal::new();
@@ -267,7 +268,7 @@ impl Cache {
     }
 
     /// The entries of a journal with all changes.
-    fn needed(&self) -> usize
+    pub(crate) fn needed(&self) -> usize
         ensures value { result ≡ needed_of self.now }
         ensures once { EachOnce self.now.journal }
     {
@@ -280,7 +281,7 @@ impl Cache {
     }
 
     /// Whether a block has a dirty entry or one in the journal.
-    fn is_pending(&self, block: u32) -> bool
+    pub(crate) fn is_pending(&self, block: u32) -> bool
         requires { block < self.now.extent.nat }
         ensures { result ≡ is_pending_block self.now block }
     {

@@ -99,6 +99,14 @@ impl DirtyEntries {
         insert(&mut self.entries, &mut self.counts, nid, e);
         self.spare -= 1;
     }
+
+    /// Makes no entry dirty any more. The memory that [`DirtyEntries::room`] took stays.
+    pub(crate) fn clear(&mut self)
+        ensures { self.new ≡ record self.old { entries = map.empty } }
+    {
+        self.entries.clear();
+        self.counts.as_mut_slice().fill(0);
+    }
 }
 
 /// Puts an entry, for which there is a place, and counts it where it is new.

@@ -1,16 +1,16 @@
 //! The journal of the last checkpoint, with its nids.
 
-ghost use Rattle.std.specs.Prelude.{◌≡◌, ◌==◌, ◌≤◌, ◌<◌, length, option_map, IfOk};
+ghost use Rattle.std.specs.Prelude.{◌≡◌, ◌==◌, ◌≤◌, ◌<◌, length, option_map};
 ghost use Rattle.std.specs.List.{list_any};
 ghost use Rattle.f2_format.specs.Journal.{journal_find};
 ghost use Rattle.f2_format.specs.Nat.{nat_block_of};
 ghost use Rattle.f2_nat_block.specs.NatEntry.{entry_of};
 ghost use Rattle.f2_nat_cache.specs.Entries.{EachOnce, nids_of as listed};
 
+use arrayvec::ArrayVec;
 use f2_bytes::{get16, get32};
 use f2_nat_block::{NatEntry, locate};
 use f2_nat_journal::Journal;
-use std::alloc::{AllocError, Global};
 use std::marker::Model;
 
 const COUNT_AT: usize = 3584;
@@ -19,11 +19,14 @@ const ENTRIES_AT: usize = 3586;
 
 const ENTRY_BYTES: usize = 13;
 
+// For so many entries a summary has room; a journal has at most 38.
+const MOST_NIDS: usize = 39;
+
 /// A journal in which each nid stands once.
 #[derive(Drop)]
 pub(crate) struct KnownJournal {
     journal: Journal,
-    nids: Vec<u32>,
+    nids: ArrayVec<u32, MOST_NIDS>,
 }
 
 impl Model for KnownJournal {
@@ -40,12 +43,12 @@ impl Model for KnownJournal {
 
 impl KnownJournal {
     /// This journal.
-    pub(crate) fn new(alloc: Global, journal: Journal) -> Result<Self, AllocError>
+    pub(crate) fn new(journal: Journal) -> Self
         requires { EachOnce journal }
-        ensures { IfOk result (λ known. known ≡ journal) }
+        ensures { result ≡ journal }
     {
-        let nids = nids_of(alloc, &journal)?;
-        Ok(KnownJournal { journal, nids })
+        let nids = nids_of(&journal);
+        KnownJournal { journal, nids }
     }
 
     /// The entry of a nid.
@@ -72,14 +75,14 @@ impl KnownJournal {
 }
 
 /// The nids of a journal, which its summary tells.
-fn nids_of(alloc: Global, journal: &Journal) -> Result<Vec<u32>, AllocError>
-    ensures { IfOk result (λ nids. nids.items ≡ listed journal.now) }
+fn nids_of(journal: &Journal) -> ArrayVec<u32, MOST_NIDS>
+    ensures { result.items ≡ listed journal.now }
 {
     let mut summary = [0; 4096];
     journal.write(&mut summary);
-    let mut nids = Vec::new(alloc);
+    let mut nids = ArrayVec::new();
     for place in 0..get16(&summary, COUNT_AT) as usize {
-        nids.push(get32(&summary, ENTRIES_AT + ENTRY_BYTES * place))?;
+        nids.push(get32(&summary, ENTRIES_AT + ENTRY_BYTES * place));
     }
-    Ok(nids)
+    nids
 }

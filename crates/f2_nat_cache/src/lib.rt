@@ -10,13 +10,15 @@
 //! `entry_at`. [`Cache::get`] reads the map and [`Cache::put`] changes it at one nid. [`Cache::plan`] tells what a
 //! checkpoint writes: all that changed into the journal, where that has room for it, else each block with a change.
 //! Where blocks are held and memory was taken ahead, [`Cache::put_ready`], [`Cache::block`], [`Cache::journal`] and
-//! [`Cache::bitmap`] neither fail nor read the disk.
+//! [`Cache::bitmap`] neither fail nor read the disk. Once the checkpoint is done, [`Cache::committed`] makes what it
+//! wrote the table's own, and the map stays.
 //!
 //! The definitions stand in `specs/Table.antt` (the map), `specs/Entries.antt` and `specs/Plan.antt`.
 #![tactic(auto)]
 
 mod cache;
 mod clean;
+mod commits;
 mod dirty;
 mod faults;
 mod journal;

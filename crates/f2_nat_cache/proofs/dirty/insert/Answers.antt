@@ -1,4 +1,4 @@
-use Rattle.std.proofs.Common.{◌≡◌, ℕ, ◌+◌, ◌<◌, length, true, false, Some, None, is_some, nat_eq, get_or, set, ap, sym, subst, ◌∙◌, arith}
+use Rattle.std.proofs.Common.{ℕ, ◌+◌, ◌<◌, length, is_some, set, ap, sym, subst, ◌∙◌, arith}
 use Rattle.std.specs.FinMap as map
 use Rattle.f2_format.specs.Nat.{nat_block_of}
 use Rattle.f2_nat_cache.specs.Entries.{Entries, AreCounts}

@@ -1,4 +1,4 @@
-use Rattle.std.proofs.Common.{◌≡◌, ℕ, ◌+◌, ◌*◌, ◌<◌, ◌≤◌, ◌∙◌, List, [], ◌∷◌, ◌++◌, length, take, get_or, Option, Some, None, ap, sym, subst, arith}
+use Rattle.std.proofs.Common.{◌≡◌, ℕ, ◌+◌, ◌*◌, ◌<◌, ◌∙◌, List, [], ◌∷◌, ◌++◌, length, take, get_or, Some, None, ap, sym, arith}
 use Rattle.std.proofs.lemmas.List.{get_or-map, length-map, take_all}
 use Rattle.f2_format.specs.Nat.{NodePlace}
 use Rattle.f2_format.specs.Journal.{JournalList, journal_find}
@@ -8,7 +8,6 @@ use Rattle.f2_nat_cache.specs.Entries.{Entries, nids_of}
 use Rattle.f2_nat_cache.specs.Plan.{latest_of, renewed, merged_below}
 use Rattle.f2_nat_cache.specs.Table.{pending}
 use Rattle.f2_nat_cache.proofs.Merged.{merged-skip, merged-all, merged-none, merged-longer, none_counted, renewed-more, renewed-absent, renewed-pending}
-use Rattle.f2_nat_cache.proofs.Lists.{positive, not_positive}
 use Rattle.f2_nat_cache.proofs.pending.merged.Goals as goal
 use Rattle.f2_nat_cache.proofs.pending.merged.Goals.{in-Some, in_default, then-count-gt0, else-count-gt0}
 

@@ -1,10 +1,10 @@
-use Rattle.std.proofs.Common.{◌≡◌, ◌≢◌, ℕ, ◌+◌, ◌<◌, ◌≤◌, List, Some, None, Option, ap, sym, ◌∙◌, arith}
+use Rattle.std.proofs.Common.{◌≢◌, ℕ, ◌<◌, List, Option, ap, sym, ◌∙◌, arith}
 use Rattle.std.specs.Option.{unwrap_or}
 use borrow.Author.Count.{below_more}
-use Rattle.f2_format.specs.Nat.{NodePlace, nat_entry, with_nat_entry}
+use Rattle.f2_format.specs.Nat.{nat_entry, with_nat_entry}
 use Rattle.f2_nat_block.specs.declared.entries.NatEntry.{NatEntry}
 use Rattle.f2_nat_block.specs.NatEntry.{entry_of, place_of}
-use Rattle.f2_nat_cache.specs.Table.{pending, nid_at, with_entry, with_pending_below}
+use Rattle.f2_nat_cache.specs.Table.{nid_at, with_entry, with_pending_below}
 use Rattle.f2_nat_cache.proofs.Writes.{with_pending-none, with_pending-more}
 use Rattle.f2_nat_cache.proofs.pending.write_pending.Goals as goal
 use Rattle.f2_nat_cache.proofs.pending.write_pending.Goals.{in-Some, in_default}

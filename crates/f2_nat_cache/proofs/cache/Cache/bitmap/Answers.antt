@@ -1,4 +1,4 @@
-use Rattle.std.proofs.Common.{List, ℕ, true, false, ap, sym, ◌∙◌}
+use Rattle.std.proofs.Common.{true, false, sym, ◌∙◌}
 use Rattle.f2_format.specs.Nat.{with_other_copy}
 use Rattle.f2_nat_cache.specs.Plan.{is_pending_block}
 use Rattle.f2_nat_cache.proofs.Lists.{fold-filter_more}

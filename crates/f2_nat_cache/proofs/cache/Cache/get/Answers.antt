@@ -1,10 +1,10 @@
-use Rattle.std.proofs.Common.{◌≡◌, ℕ, List, Option, Some, IfSome, ap, sym, subst, ◌∙◌, arith}
+use Rattle.std.proofs.Common.{ℕ, ap, sym, subst, ◌∙◌}
 use Rattle.std.specs.FinMap as map
 use Rattle.f2_format.specs.Geometry.{nat_address}
 use Rattle.f2_format.specs.Nat.{is_second_copy, nat_block_of}
 use Rattle.f2_nat_cache.specs.Entries.{Entries, CleanTable, MayAdd}
-use Rattle.f2_nat_cache.specs.Table.{Table, IsKept, copy_address, copy_in, entry_in}
-use Rattle.f2_nat_cache.proofs.Kept.{entry_clean, entry_read, kept_more, read_at, told_same}
+use Rattle.f2_nat_cache.specs.Table.{Table, copy_address}
+use Rattle.f2_nat_cache.proofs.Kept.{entry_clean, kept_more, read_at, told_same}
 use Rattle.f2_nat_cache.proofs.cache.Cache.get.Goals as goal
 
 pub returns-in-Some-get-clause-entry : goal.returns-in-Some-get-clause-entry

@@ -1,4 +1,4 @@
-use Rattle.std.proofs.Common.{◌≡◌, ℕ, ◌<◌, List, Option, Some, None, Box, Global, length, get_or, set, get_or-set_same, is_some, map, ap, sym, ◌∙◌, arith}
+use Rattle.std.proofs.Common.{ℕ, ◌<◌, List, Option, Some, None, Box, Global, length, get_or, set, get_or-set_same, is_some, map, ap, ◌∙◌, arith}
 use Rattle.std.specs.Option.{option_map}
 use Rattle.f2_format.specs.Geometry.{nat_address}
 use Rattle.f2_nat_cache.specs.Table.{Table, copy_address}

@@ -3,7 +3,7 @@ use Rattle.std.specs.FinMap as map
 use Rattle.f2_nat_cache.specs.Entries.{Entries, DirtyTable, CleanTable}
 use Rattle.f2_nat_cache.specs.Table.{Table, pending}
 use Rattle.f2_nat_cache.proofs.Counts.{within_insert}
-use Rattle.f2_nat_cache.proofs.Kept.{apart_put, kept_fewer, fewer_without}
+use Rattle.f2_nat_cache.proofs.Kept.{apart_put, kept_fewer, fewer_without, there_before}
 use Rattle.f2_nat_cache.proofs.cache.Cache.put.Goals as goal
 
 pub invariant_of-self-2 : goal.invariant_of-self-2
@@ -21,6 +21,7 @@ invariant_of-self-2 c =
           within_insert c.self.inside.dirty.entries c.args.nid c.args.e (455 * c.self.inside.geometry.nat)
           (omega (arith, c.requires, ap (λ (t : Table). t.extent.nat) c.self.view_is)) is.within nid (sym (ap (λ (m : Entries). is_some (map.get m nid)) entries) ∙ there);
       bounded = c.forget.ensures.bounded;
+      clean_within = λ nid there. is.clean_within nid (there_before c.self.inside.clean.entries c.args.nid nid (sym (ap (λ (m : Entries). is_some (map.get m nid)) left) ∙ there));
       apart = λ nid there.
           ap (λ (d : Entries). pending d c.self.inside.journal nid) entries
           ∙ apart_put c.self.inside.dirty.entries c.self.inside.clean.entries c.self.inside.journal c.args.nid c.args.e is.apart nid (sym (ap (λ (m : Entries). is_some (map.get m nid)) left) ∙ there);

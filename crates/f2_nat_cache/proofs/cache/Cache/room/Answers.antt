@@ -1,4 +1,4 @@
-use Rattle.std.proofs.Common.{◌≡◌, Result, Ok, Err, OnOk, ap}
+use Rattle.std.proofs.Common.{Result, Ok, Err, OnOk, ap}
 use Rattle.f2_nat_cache.specs.Table.{Table}
 use Rattle.f2_nat_cache.proofs.Kept.{kept_fewer, same_fewer}
 use Rattle.f2_nat_cache.proofs.cache.Cache.room.Goals as goal

@@ -1,4 +1,4 @@
-use Rattle.std.proofs.Common.{max, ap, subst, sym, ◌∙◌, refl, arith}
+use Rattle.std.proofs.Common.{max, ap, subst, sym, ◌∙◌, arith}
 use Rattle.f2_nat_cache.specs.Entries.{Entries, DirtyTable, AreCounts}
 use Rattle.f2_nat_cache.proofs.Parts.{same_dirty}
 use Rattle.f2_nat_cache.proofs.Tables.{view-same}
