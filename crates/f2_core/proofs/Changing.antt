@@ -8,8 +8,9 @@ use Rattle.f2_format.specs.Geometry.{Extent, IsGeometry, node_third, nid_limit}
 use Rattle.f2_disk.specs.Contents.{Contents}
 use Rattle.f2_model.specs.Tree.{Rows, ROOT, walk}
 use Rattle.f2_model.specs.Call.{answer, effect, refusal, space_refusal}
-use Rattle.f2_model.specs.State.{State, IsFreeIno, dirtied, marked_dirty, removed, touched, with_rows}
-use Rattle.f2_model.specs.Step.{Step, Begin, TakesEffect, MOST_ENTRIES, adds_row, called, did, replied, outcome_of}
+use Rattle.f2_model.specs.State.{State, IsFreeIno, dirtied, marked_dirty, removed, touched, from_both_rows}
+use Rattle.f2_model.specs.Step.{Step, IsSeat, calm, TakesEffect, MOST_ENTRIES, adds_row, called, told_at_once, replied, outcome_of}
+use Rattle.f2_model.specs.declared.events.Event.TheVariants.{Begin}
 use Rattle.f2_model.specs.Run.{Happening}
 use Rattle.f2_model.specs.History.{History}
 use Rattle.f2_model.specs.declared.rows.Row.{Row}
@@ -27,7 +28,7 @@ use Rattle.f2_core.specs.declared.changes.Changed.{Changed}
 use Rattle.f2_core.specs.declared.volumes.Volume.{Volume}
 use Rattle.f2_core.proofs.Grown.{next_free}
 use Rattle.f2_core.proofs.Refusals.{change-refused, space-refused}
-use Rattle.f2_core.proofs.Runs.{calm, quiet-calm}
+use Rattle.f2_core.proofs.Runs.{calmly, quiet-calm, happens-last}
 use Rattle.f2_core.proofs.Steps.{on_false, on_true, refused_turn, step-refused, step-kept_out, step-takes}
 use Rattle.f2_core.proofs.Comes.{seen, comes, short}
 
@@ -40,16 +41,18 @@ record IsElse (state after : State) : Type 0 where
   marks : after.marks ≡ state.marks
   acknowledged : after.acknowledged ≡ state.acknowledged
   pending : after.pending ≡ state.pending
+  format : after.format ≡ state.format
+  version : after.version ≡ state.version
   mode : after.mode ≡ state.mode
   flights : after.flights ≡ state.flights
   logged : after.logged ≡ state.logged
   entries : after.entries ≡ state.entries
 
 itself : (state : State) → IsElse state state
-itself state = record { base = refl; marks = refl; acknowledged = refl; pending = refl; mode = refl; flights = refl; logged = refl; entries = refl }
+itself state = record { base = refl; marks = refl; acknowledged = refl; pending = refl; format = refl; version = refl; mode = refl; flights = refl; logged = refl; entries = refl }
 
-dirties : (state : State) (request : Request) (before after : Result Row Reply) → IsElse state (with_rows state before after (λ old new. dirtied state old new (touched old request) (removed old request)))
-dirties state request (Ok before) (Ok after) = record { base = refl; marks = refl; acknowledged = refl; pending = refl; mode = refl; flights = refl; logged = refl; entries = refl }
+dirties : (state : State) (request : Request) (before after : Result Row Reply) → IsElse state (from_both_rows state before after (λ old new. dirtied state old new (touched old request) (removed old request)))
+dirties state request (Ok before) (Ok after) = record { base = refl; marks = refl; acknowledged = refl; pending = refl; format = refl; version = refl; mode = refl; flights = refl; logged = refl; entries = refl }
 dirties state request (Ok before) (Err refused) = itself state
 dirties state request (Err refused) after = itself state
 
@@ -94,7 +97,7 @@ module _ (extent : Extent) (geometry : IsGeometry extent) (told : Option Content
       by_row None there = refl
       by_row (Some row) there = let old = is.older ino row there in absurd (omega (arith, old, at))
 
-  module _ {D : Type 0} (disk : D) (after : History) (seat : ℕ) (request : Request) (change : IsChange request) (early : length before.entries < MOST_ENTRIES) where
+  module _ {D : Type 0} (disk : D) (after : History) (seat : ℕ) (at : IsSeat seat) (request : Request) (change : IsChange request) (early : length before.entries < MOST_ENTRIES) where
     early_state : from.entries < MOST_ENTRIES
     early_state = let count = is.entries in omega (arith, count, early)
 
@@ -107,7 +110,7 @@ module _ (extent : Extent) (geometry : IsGeometry extent) (told : Option Content
     -- it took effect
     module _ (new : Rows) (said : Reply) (ino : ℕ) (took : TookEffect extent volume.files new request said ino) (more : map.len volume.files ≤ map.len new) (choices : List ℕ) where
       abbrev one : Happening
-      one = record { event = Begin seat request; faults = calm; turn = did from seat request (answer from.live request) choices (called from request ino) }
+      one = calmly (Begin seat request) (told_at_once from seat request (answer from.live request) choices (called from request ino))
 
       said_is : answer from.live request ≡ said
       said_is = ap (λ tree. answer tree request) is.known.live ∙ sym took.reply
@@ -115,13 +118,13 @@ module _ (extent : Extent) (geometry : IsGeometry extent) (told : Option Content
       takes : TakesEffect (limits_of extent) from seat request one.turn → after.entries ≡ before.entries ++ entry.Did seat request (outcome_of said) ∷ [] → after.choices ≡ before.choices ++ choices
           → ComesTo (seen disk extent (Some volume) before) (seen disk extent (Some (record { files = new; stored = volume.stored })) after) told from (Begin seat request) (replied said)
       takes effect_taken entries chosen =
-          let step = step-takes (limits_of extent) from is.mode early_state is.flights seat request one.turn change (refusal_is None took.none) (space_is None took.space) effect_taken in
+          let step = step-takes (limits_of extent) from is.mode early_state is.flights seat at request one.turn change (refusal_is None took.none) (space_is None took.space) effect_taken in
           let rest = stays_else from request (effect from.live request ino) change in
           let longer = one_more before.entries after.entries (entry.Did seat request (outcome_of said)) entries in
           let count = is.entries in
           let counted = rest.entries in
           let version = is.version in
-          comes disk disk extent (Some volume) (Some (record { files = new; stored = volume.stored })) before after told told from is (Begin seat request) (replied said) (one ∷ []) one.turn.after (step, refl)
+          comes disk disk extent (Some volume) (Some (record { files = new; stored = volume.stored })) before after told told from is (Begin seat request) (replied said) (one ∷ []) one.turn.after (happens-last (limits_of extent) from (Begin seat request) one.turn step)
           (inl (short (Begin seat request) (replied said) one refl (ap replied said_is) quiet-calm)) (omega arith)
           (entries ∙ ap (λ r. before.entries ++ entry.Did seat request (outcome_of r) ∷ []) (sym said_is)) (chosen ∙ ap (λ cs. before.choices ++ cs) (sym (append-nil choices))) (record {
             mode = rest.mode ∙ is.mode;
@@ -129,11 +132,13 @@ module _ (extent : Extent) (geometry : IsGeometry extent) (told : Option Content
             marks = rest.marks ∙ is.marks;
             acknowledged = rest.acknowledged ∙ is.acknowledged;
             pending = rest.pending ∙ is.pending;
+            format = rest.format ∙ is.format;
             logged = rest.logged ∙ is.logged;
             count = omega (arith, count, counted, longer);
             flat = subst (IsFlat extent) (sym rest.base) is.flat;
             older = λ old row there. (let was = is.older old row (ap (λ tree. map.get tree old) (sym rest.base) ∙ there) in omega (arith, was, more));
             stored = is.stored;
+            newest = is.newest ∙ sym rest.version;
             version = omega (arith, version, longer);
             known = record { live = ap (λ tree. effect tree request ino) is.known.live ∙ sym took.tree; told = is.known.told };
             held = subst (λ tree. IfSome told (λ lists. IsHeld extent lists tree is.stored)) (sym rest.base) is.held;
@@ -142,11 +147,11 @@ module _ (extent : Extent) (geometry : IsGeometry extent) (told : Option Content
     -- it was refused
     module _ (new : Rows) (said : Reply) (out : IsRefused extent volume.files request said) (same : new ≡ volume.files) where
       step_out : IsRefused extent volume.files request said → Step (limits_of extent) calm from (Begin seat request) (refused_turn from seat request said)
-      step_out (inl stands) = step-refused (limits_of extent) from is.mode early_state is.flights seat request said (refusal_is (Some said) stands)
-      step_out (inr (passed, full)) = step-kept_out (limits_of extent) from is.mode early_state is.flights seat request said change (refusal_is None passed) (space_is (Some said) full)
+      step_out (inl stands) = step-refused (limits_of extent) from is.mode early_state is.flights seat at request said (refusal_is (Some said) stands)
+      step_out (inr (passed, full)) = step-kept_out (limits_of extent) from is.mode early_state is.flights seat at request said change (refusal_is None passed) (space_is (Some said) full)
 
       abbrev other : Happening
-      other = record { event = Begin seat request; faults = calm; turn = refused_turn from seat request said }
+      other = calmly (Begin seat request) (refused_turn from seat request said)
 
       refuses : after.entries ≡ before.entries ++ entry.Did seat request (outcome_of said) ∷ [] → after.choices ≡ before.choices ++ []
           → ComesTo (seen disk extent (Some volume) before) (seen disk extent (Some (record { files = new; stored = volume.stored })) after) told from (Begin seat request) (replied said)
@@ -154,18 +159,20 @@ module _ (extent : Extent) (geometry : IsGeometry extent) (told : Option Content
           let longer = one_more before.entries after.entries (entry.Did seat request (outcome_of said)) entries in
           let count = is.entries in
           let version = is.version in
-          comes disk disk extent (Some volume) (Some (record { files = new; stored = volume.stored })) before after told told from is (Begin seat request) (replied said) (other ∷ []) other.turn.after (step_out out, refl)
+          comes disk disk extent (Some volume) (Some (record { files = new; stored = volume.stored })) before after told told from is (Begin seat request) (replied said) (other ∷ []) other.turn.after (happens-last (limits_of extent) from (Begin seat request) other.turn (step_out out))
           (inl (short (Begin seat request) (replied said) other refl refl quiet-calm)) (omega arith) entries choices (record {
             mode = is.mode;
             flights = is.flights;
             marks = is.marks;
             acknowledged = is.acknowledged;
             pending = is.pending;
+            format = is.format;
             logged = is.logged;
             count = omega (arith, count, longer);
             flat = is.flat;
             older = λ old row there. (let was = is.older old row there in let len = ap map.len same in omega (arith, was, len));
             stored = is.stored;
+            newest = is.newest;
             version = omega (arith, version, longer);
             known = record { live = is.known.live ∙ sym same; told = is.known.told };
             held = is.held;

@@ -8,9 +8,9 @@ use Rattle.f2_disk.specs.Meter.{Meter, HasFailed}
 use Rattle.f2_model.specs.State.{State}
 use Rattle.f2_model.specs.Run.{Happening, entries_of, choices_of}
 use Rattle.f2_core.specs.Seen.{Seen, IsIn}
-use Rattle.f2_core.specs.Events.{LeadsTo, LeadAll, ComesTo, ComeTo, event_of, answer_of}
-use Rattle.f2_core.specs.declared.events.Event.{Event}
-use Rattle.f2_core.specs.declared.events.Answer.{Answer}
+use Rattle.f2_model.specs.declared.events.Event.{Event}
+use Rattle.f2_model.specs.declared.events.Answer.{Answer}
+use Rattle.f2_core.specs.Events.{LeadsTo, LeadAll, ComesTo, ComeTo}
 use Rattle.f2_core.proofs.Runs.{entries-append, choices-append}
 use Rattle.f2_core.proofs.Comes.{at_of, safe}
 
@@ -43,20 +43,20 @@ come-none old told from is = record {
 
 -- one call more
 lead-push : (extent : Extent) (from mid to : State) (calls : List Event) (answers : List Answer) (events more : List Happening) (call : Event) (answer : Answer) → LeadAll extent from calls answers events mid
-    → LeadsTo extent mid (event_of call) (answer_of answer) more to → LeadAll extent from (calls ++ call ∷ []) (answers ++ answer ∷ []) (events ++ more) to
+    → LeadsTo extent mid call answer more to → LeadAll extent from (calls ++ call ∷ []) (answers ++ answer ∷ []) (events ++ more) to
 lead-push extent from mid to [] [] events more call answer so one =
-    (more, [], to, subst (λ s. LeadsTo extent s (event_of call) (answer_of answer) more to) (sym so.1) one, (refl, refl), ap (λ es. es ++ more) so.0 ∙ sym (append-nil more))
+    (more, [], to, subst (λ s. LeadsTo extent s call answer more to) (sym so.1) one, (refl, refl), ap (λ es. es ++ more) so.0 ∙ sym (append-nil more))
 lead-push extent from mid to [] (a ∷ answers) events more call answer so one = absurd so
 lead-push extent from mid to (e ∷ calls) [] events more call answer so one = absurd so
 lead-push extent from mid to (e ∷ calls) (a ∷ answers) events more call answer so one =
     (so.0, so.1 ++ more, so.2, so.3, lead-push extent so.2 mid to calls answers so.1 more call answer so.4 one, ap (λ es. es ++ more) so.5 ∙ append_assoc so.0 so.1 more)
 
 come-push : {D : Type 0} (old mid new : Seen D) (between told : Option Contents) (from : State) (calls : List Event) (answers : List Answer) (call : Event) (answer : Answer) → mid.geometry ≡ old.geometry
-    → (so : ComeTo old mid between from calls answers) → ComesTo mid new told so.to (event_of call) (answer_of answer) → ComeTo old new told from (calls ++ call ∷ []) (answers ++ answer ∷ [])
+    → (so : ComeTo old mid between from calls answers) → ComesTo mid new told so.to call answer → ComeTo old new told from (calls ++ call ∷ []) (answers ++ answer ∷ [])
 come-push old mid new between told from calls answers call answer same so one = record {
   events = so.events ++ one.events;
   to = one.to;
-  leads = lead-push old.geometry from so.to one.to calls answers so.events one.events call answer so.leads (subst (λ e. LeadsTo e so.to (event_of call) (answer_of answer) one.events one.to) same one.leads);
+  leads = lead-push old.geometry from so.to one.to calls answers so.events one.events call answer so.leads (subst (λ e. LeadsTo e so.to call answer one.events one.to) same one.leads);
   goes = record {
     entries = one.goes.entries ∙ ap (λ es. es ++ entries_of one.events) so.goes.entries ∙ append_assoc old.history.entries (entries_of so.events) (entries_of one.events)
         ∙ ap (λ es. old.history.entries ++ es) (sym (entries-append so.events one.events));
@@ -71,7 +71,7 @@ come-push old mid new between told from calls answers call answer same so one = 
 pub come-on : {D : Type 0} (old mid new : Seen D) (was between told : Option Contents) (first then last : Meter) (calls : List Event) (answers : List Answer) (call : Event) (answer : Answer) → mid.geometry ≡ old.geometry → (IsSome was → IsSome between)
     → first.faults ≤ then.faults → then.faults ≤ last.faults
     → ((from : State) → IsSome was → IsIn old.geometry was old.volume old.history from → ¬ (HasFailed first then) → ComeTo old mid between from calls answers)
-    → ((from : State) → IsSome between → IsIn mid.geometry between mid.volume mid.history from → ¬ (HasFailed then last) → ComesTo mid new told from (event_of call) (answer_of answer))
+    → ((from : State) → IsSome between → IsIn mid.geometry between mid.volume mid.history from → ¬ (HasFailed then last) → ComesTo mid new told from call answer)
     → (from : State) → IsSome was → IsIn old.geometry was old.volume old.history from → ¬ (HasFailed first last) → ComeTo old new told from (calls ++ call ∷ []) (answers ++ answer ∷ [])
 come-on old mid new was between told first then last calls answers call answer same tell later more come comes from tells is calm =
     let so = come from tells is (λ failed. calm (rose_later first.faults then.faults last.faults failed more)) in

@@ -6,17 +6,19 @@ use Rattle.f2_disk.specs.Contents.{Contents, IsImage, alone, WhereTold}
 use Rattle.f2_disk.specs.Pick.{crash_image, crashed as crashed_to}
 use Rattle.f2_model.specs.Tree.{Rows}
 use Rattle.f2_model.specs.State.{State}
-use Rattle.f2_model.specs.Step.{Crash, crashed}
+use Rattle.f2_model.specs.Step.{crashed}
+use Rattle.f2_model.specs.declared.events.Event.TheVariants.{Crash}
 use Rattle.f2_model.specs.Run.{Happening}
 use Rattle.f2_model.specs.History.{History}
 use Rattle.f2_model.specs.declared.histories.Entry.{Entry}
 use Rattle.f2_model.specs.declared.histories.Entry.TheVariants as entry
 use Rattle.f2_laid.specs.declared.stored.Stored.{Stored}
+use Rattle.f2_flat.specs.Flat.{limits_of}
 use Rattle.f2_core.specs.Seen.{IsHeld, IsIn}
 use Rattle.f2_core.specs.Events.{HasCrashed}
 use Rattle.f2_core.specs.declared.volumes.Volume.{Volume}
 use Rattle.f2_core.proofs.Held.{left-alone}
-use Rattle.f2_core.proofs.Runs.{calm, quiet-calm}
+use Rattle.f2_core.proofs.Runs.{calmly, quiet-calm, happens-last}
 use Rattle.f2_core.proofs.Comes.{seen, goes}
 
 -- a disk with one image has it after a crash
@@ -30,7 +32,7 @@ crash_keeps extent pick (Some lists) (Some now) base stored is where_told held =
     subst (λ l. IsHeld extent l base stored) (held.one ∙ ap alone (sym left) ∙ sym where_told.0) held
 
 abbrev pub crash_of : State → Happening
-crash_of state = record { event = Crash; faults = calm; turn = crashed state }
+crash_of state = calmly Crash (crashed state)
 
 one_more : (before after : List Entry) (added : Entry) → after ≡ before ++ added ∷ [] → length after ≡ length before + 1
 one_more before after added e = ap length e ∙ length-append before (added ∷ [])
@@ -49,20 +51,22 @@ crashes disk after_disk extent volume before room after was told pick spare take
       one = crash_of from;
       event = refl;
       quiet = quiet-calm;
-      happened = (refl, refl);
+      happened = happens-last (limits_of extent) from Crash (crashed from) refl;
       few = omega arith;
       closed = refl;
-      goes = goes disk after_disk extent volume None before after was told from at (crash_of from ∷ []) (crashed from).after (refl, refl) all none (record {
+      goes = goes disk after_disk extent volume None before after was told from at (crash_of from ∷ []) (crashed from).after (happens-last (limits_of extent) from Crash (crashed from) refl) all none (record {
         mode = refl;
         flights = refl;
         marks = at.marks;
         acknowledged = at.acknowledged;
         pending = at.pending;
+        format = at.format;
         logged = at.logged;
         count = omega (arith, count, more);
         flat = at.flat;
         older = λ ino row there. tt;
         stored = at.stored;
+        newest = at.newest;
         version = omega (arith, version, more);
         known = tt;
         held = crash_keeps extent pick was told from.base at.stored is where_told at.held;

@@ -23,7 +23,7 @@ use Rattle.f2_plain_save.specs.Saves.{IsMade}
 use Rattle.f2_flat.specs.Flat.{IsFlat, FILE_SIZE}
 use Rattle.f2_flat.specs.Kept.{HasRootFiles}
 use Rattle.f2_flat.proofs.Trees.{blocks_few}
-use Rattle.f2_core.specs.Seen.{IsHeld, IsIn}
+use Rattle.f2_core.specs.Seen.{IsHeld, IsIn, new_image}
 
 root_there : map.get root_alone ROOT ≡ Some root_row
 root_there = get_put map.empty ROOT root_row
@@ -100,20 +100,22 @@ root_flat extent geometry = record {
 
 -- a closed core with an empty history is in the state before the first mount
 pub made_state : (extent : Extent) (told : Option Contents) (history : History) (stored : Stored) → IsGeometry extent → history ≡ record { entries = []; choices = []; spare = 0 } → stored.version ≡ 1
-    → IfSome told (λ lists. IsHeld extent lists root_alone stored) → IsIn extent told None history (initial root_alone [])
+    → IfSome told (λ lists. IsHeld extent lists root_alone stored) → IsIn extent told None history (initial new_image)
 made_state extent told history stored geometry none first held =
-    subst (λ h. IsIn extent told None h (initial root_alone [])) (sym none) (record {
-      run = record { events = []; happened = refl; entries_left = refl; choices_left = refl };
+    subst (λ h. IsIn extent told None h (initial new_image)) (sym none) (record {
+      run = record { events = []; happened = (omega arith, refl); entries_left = refl; choices_left = refl };
       mode = refl;
       flights = refl;
       marks = refl;
       acknowledged = refl;
       pending = refl;
+      format = refl;
       logged = refl;
       entries = refl;
       flat = root_flat extent geometry;
       older = λ ino row there. tt;
       stored = stored;
+      newest = first;
       version = (let is : stored.version ≡ 1 = first in omega (arith, is));
       known = tt;
       held = held;

@@ -5,16 +5,16 @@ use Rattle.f2_format.specs.Geometry.{Extent}
 use Rattle.f2_disk.specs.Contents.{Contents}
 use Rattle.f2_model.specs.Tree.{Rows}
 use Rattle.f2_model.specs.State.{State}
-use Rattle.f2_model.specs.Step as machine
-use Rattle.f2_model.specs.Step.{Mount}
+use Rattle.f2_model.specs.declared.events.Answer.TheVariants as answers
+use Rattle.f2_model.specs.declared.events.MountRefusal.TheVariants as refusals
+use Rattle.f2_model.specs.declared.events.Event.TheVariants.{Mount}
 use Rattle.f2_model.specs.History.{History}
 use Rattle.f2_laid.specs.declared.stored.Stored.{Stored}
 use Rattle.f2_flat.specs.Flat.{IsFlat}
 use Rattle.f2_core.specs.Seen.{IsHeld, IsIn}
-use Rattle.f2_core.specs.Events.{ComesTo, refusal_of}
+use Rattle.f2_core.specs.Events.{ComesTo}
 use Rattle.f2_core.specs.Found.{FindsHeld, StaysHeld}
-use Rattle.f2_core.specs.declared.events.MountFault.{MountFault}
-use Rattle.f2_core.specs.declared.events.MountFault.TheVariants as fault
+use Rattle.f2_model.specs.declared.events.MountRefusal.{MountRefusal}
 use Rattle.f2_core.specs.declared.volumes.Volume.{Volume}
 use Rattle.f2_core.proofs.Comes.{seen}
 use Rattle.f2_core.proofs.Unchanged.{unmounted, unfound}
@@ -43,12 +43,12 @@ found_is extent None base stored volume tells flat held found = absurd (cc)
 found_is extent (Some lists) base stored volume tells flat held found = found base stored flat held
 
 -- a mount that finds no tree, where no call of the disk failed
-pub not_found : {D : Type 0} (disk after_disk : D) (extent : Extent) (volume : Option Volume) (before room after : History) (was told : Option Contents) (from : State) (why : MountFault) → IsIn extent was volume before from → volume ≡ None
-    → ((why ≡ fault.Read) ⊎ (why ≡ fault.Write) → ⊥) → (why ≡ fault.Bad → after ≡ room) → (why ≡ fault.Memory → after ≡ room) → room.entries ≡ before.entries → room.choices ≡ before.choices → told ≡ was
-    → ComesTo (seen disk extent volume before) (seen after_disk extent volume after) told from Mount (machine.NotMounted (refusal_of why))
-not_found disk after_disk extent volume before room after was told from fault.Read at none calm bad memory entries choices same = absurd (calm (inl refl))
-not_found disk after_disk extent volume before room after was told from fault.Write at none calm bad memory entries choices same = absurd (calm (inr refl))
-not_found disk after_disk extent volume before room after was told from fault.Bad at none calm bad memory entries choices same =
+pub not_found : {D : Type 0} (disk after_disk : D) (extent : Extent) (volume : Option Volume) (before room after : History) (was told : Option Contents) (from : State) (why : MountRefusal) → IsIn extent was volume before from → volume ≡ None
+    → ((why ≡ refusals.ReadFailed) ⊎ (why ≡ refusals.WriteFailed) → ⊥) → (why ≡ refusals.BadImage → after ≡ room) → (why ≡ refusals.NoMemory → after ≡ room) → room.entries ≡ before.entries → room.choices ≡ before.choices → told ≡ was
+    → ComesTo (seen disk extent volume before) (seen after_disk extent volume after) told from Mount (answers.NotMounted why)
+not_found disk after_disk extent volume before room after was told from refusals.ReadFailed at none calm bad memory entries choices same = absurd (calm (inl refl))
+not_found disk after_disk extent volume before room after was told from refusals.WriteFailed at none calm bad memory entries choices same = absurd (calm (inr refl))
+not_found disk after_disk extent volume before room after was told from refusals.BadImage at none calm bad memory entries choices same =
     unfound disk after_disk extent volume before after was told from at none (ap (λ (h : History). h.entries) (bad refl) ∙ entries) (ap (λ (h : History). h.choices) (bad refl) ∙ choices) same
-not_found disk after_disk extent volume before room after was told from fault.Memory at none calm bad memory entries choices same =
+not_found disk after_disk extent volume before room after was told from refusals.NoMemory at none calm bad memory entries choices same =
     unmounted disk after_disk extent volume before after was told from at none (ap (λ (h : History). h.entries) (memory refl) ∙ entries) (ap (λ (h : History). h.choices) (memory refl) ∙ choices) same

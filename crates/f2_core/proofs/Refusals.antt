@@ -5,7 +5,8 @@ use Rattle.std.specs.Bool.{then_some}
 use Rattle.std.specs.FinMap as map
 use Rattle.f2_model.specs.declared.bounds.Limits.{Limits}
 use Rattle.f2_model.specs.Tree.{Rows, ROOT, is_directory, child, or_no_entry, walked, walk, parent_path}
-use Rattle.f2_model.specs.Call.{walk_parent, to_directory, refusal_of, first_refusal, refusal, space_refusal, has_bad_name, walk_refusal, names_directory, name_is_there, has_entries, is_too_big}
+use Rattle.f2_model.specs.Call.{walk_parent, to_directory, refusal_of, refusal, space_refusal, has_bad_name, walk_refusal, names_directory, name_is_there, has_entries, is_too_big}
+use Rattle.f2_model.specs.Lists.{first_some}
 use Rattle.f2_model.specs.Count.{nodes_of_tree, data_of_tree}
 use Rattle.f2_model.specs.Step.{replied}
 use Rattle.f2_model.specs.declared.rows.Row.{Row}
@@ -58,7 +59,7 @@ parent-refused (Ok row) refused each h = by_kind (is_directory row.kind) h
 
 -- the tests of a call in order, of which only the walk tells a refusal of its own
 first-refused : (bad : Bool) (walks : Option Reply) (directory there entries big : Bool) (refused : Reply) → ((r : Reply) → walks ≡ Some r → r ≢ WriteFault)
-    → first_refusal (then_some bad BadName ∷ walks ∷ then_some directory IsDir ∷ then_some there Exists ∷ then_some entries NotEmpty ∷ then_some big TooBig ∷ []) ≡ Some refused → refused ≢ WriteFault
+    → first_some (then_some bad BadName ∷ walks ∷ then_some directory IsDir ∷ then_some there Exists ∷ then_some entries NotEmpty ∷ then_some big TooBig ∷ []) ≡ Some refused → refused ≢ WriteFault
 first-refused true walks directory there entries big refused each h = λ same. let bad : BadName ≡ WriteFault = same_refusal BadName refused h ∙ same in cc
 first-refused false (Some r) directory there entries big refused each h = each refused h
 first-refused false None true there entries big refused each h = λ same. let bad : IsDir ≡ WriteFault = same_refusal IsDir refused h ∙ same in cc
@@ -83,7 +84,7 @@ change-refused limits tree request is refused h =
 pub space-refused : (limits : Limits) (tree : Rows) (refused : Reply) → space_refusal limits tree ≡ Some refused → refused ≢ WriteFault
 space-refused limits tree refused h = by_room (nat_lt limits.nodes (nodes_of_tree tree)) (nat_lt limits.data_blocks (data_of_tree tree)) h
   where
-    by_room : (nodes blocks : Bool) → first_refusal (then_some nodes (NoSpace Node (nodes_of_tree tree) limits.nodes) ∷ then_some blocks (NoSpace Data (data_of_tree tree) limits.data_blocks) ∷ []) ≡ Some refused → refused ≢ WriteFault
+    by_room : (nodes blocks : Bool) → first_some (then_some nodes (NoSpace Node (nodes_of_tree tree) limits.nodes) ∷ then_some blocks (NoSpace Data (data_of_tree tree) limits.data_blocks) ∷ []) ≡ Some refused → refused ≢ WriteFault
     by_room true blocks h = λ same. let is : NoSpace Node (nodes_of_tree tree) limits.nodes ≡ refused = same_refusal _ refused h in let bad : NoSpace Node (nodes_of_tree tree) limits.nodes ≡ WriteFault = cc in cc
     by_room false true h = λ same. let is : NoSpace Data (data_of_tree tree) limits.data_blocks ≡ refused = same_refusal _ refused h in let bad : NoSpace Data (data_of_tree tree) limits.data_blocks ≡ WriteFault = cc in cc
     by_room false false h = absurd (cc)

@@ -4,8 +4,13 @@ use Rattle.std.specs.Prelude.{Option, Some, None, IfSome}
 use Rattle.f2_format.specs.Geometry.{Extent}
 use Rattle.f2_disk.specs.Contents.{Contents}
 use Rattle.f2_model.specs.State.{State}
-use Rattle.f2_model.specs.Step as machine
-use Rattle.f2_model.specs.Step.{Event, Answer, Begin, Mount, AlreadyMounted, MOST_ENTRIES, replied}
+use Rattle.f2_model.specs.declared.events.Answer.TheVariants as answers
+use Rattle.f2_model.specs.declared.events.MountRefusal.TheVariants as refusals
+use Rattle.f2_model.specs.Step.{IsSeat, MOST_ENTRIES, replied}
+use Rattle.f2_model.specs.declared.events.Event.{Event}
+use Rattle.f2_model.specs.declared.events.Answer.{Answer}
+use Rattle.f2_model.specs.declared.events.Event.TheVariants.{Begin, Mount}
+use Rattle.f2_model.specs.declared.events.Answer.TheVariants.{AlreadyMounted}
 use Rattle.f2_model.specs.History.{History}
 use Rattle.f2_model.specs.declared.requests.Request.{Request}
 use Rattle.f2_model.specs.declared.replies.Reply.TheVariants as reply
@@ -29,24 +34,24 @@ module _ {D : Type 0} (disk after_disk : D) (extent : Extent) where
       subst (λ v. ComesTo (seen disk extent v before) (seen after_disk extent after_volume after) told from event answer) (sym is)
       (subst (λ v. ComesTo (seen disk extent now before) (seen after_disk extent v after) told from event answer) (sym after_is) (comes (subst (λ v. IsIn extent was v before from) is at)))
 
-  pub closed : (volume after_volume : Option Volume) (before after : History) (was told : Option Contents) (from : State) → IsIn extent was volume before from → volume ≡ None → after_volume ≡ None → (seat : ℕ) (request : Request)
+  pub closed : (volume after_volume : Option Volume) (before after : History) (was told : Option Contents) (from : State) → IsIn extent was volume before from → volume ≡ None → after_volume ≡ None → (seat : ℕ) (seated : IsSeat seat) (request : Request)
       → after.entries ≡ before.entries → after.choices ≡ before.choices → told ≡ was → ComesTo (seen disk extent volume before) (seen after_disk extent after_volume after) told from (Begin seat request) (replied reply.Closed)
-  closed volume after_volume before after was told from at none after_none seat request entries choices same =
+  closed volume after_volume before after was told from at none after_none seat seated request entries choices same =
       known volume after_volume None None before after was told from (Begin seat request) (replied reply.Closed) none after_none (λ is.
-      stays disk after_disk extent None before after was told from is (Begin seat request) (replied reply.Closed) (step-closed (limits_of extent) from seat request is.mode) (λ short. inl short) entries choices same) at
+      stays disk after_disk extent None before after was told from is (Begin seat request) (replied reply.Closed) (step-closed (limits_of extent) from seat seated request is.mode) (λ short. inl short) entries choices same) at
 
   pub spent : (volume after_volume : Option Volume) (opened : Volume) (before after : History) (was told : Option Contents) (from : State) → IsIn extent was volume before from → volume ≡ Some opened → after_volume ≡ Some opened → MOST_ENTRIES ≤ length before.entries
-      → (seat : ℕ) (request : Request) → after.entries ≡ before.entries → after.choices ≡ before.choices → told ≡ was → ComesTo (seen disk extent volume before) (seen after_disk extent after_volume after) told from (Begin seat request) (replied reply.Spent)
-  spent volume after_volume opened before after was told from at some after_some late seat request entries choices same =
+      → (seat : ℕ) (seated : IsSeat seat) (request : Request) → after.entries ≡ before.entries → after.choices ≡ before.choices → told ≡ was → ComesTo (seen disk extent volume before) (seen after_disk extent after_volume after) told from (Begin seat request) (replied reply.Spent)
+  spent volume after_volume opened before after was told from at some after_some late seat seated request entries choices same =
       known volume after_volume (Some opened) (Some opened) before after was told from (Begin seat request) (replied reply.Spent) some after_some (λ is.
       stays disk after_disk extent (Some opened) before after was told from is (Begin seat request) (replied reply.Spent)
-      (step-spent (limits_of extent) from seat request is.mode (let count = is.entries in omega (arith, count, late))) (λ short. inl short) entries choices same) at
+      (step-spent (limits_of extent) from seat seated request is.mode (let count = is.entries in omega (arith, count, late))) (λ short. inl short) entries choices same) at
 
   pub no_memory : (volume after_volume : Option Volume) (opened : Volume) (before after : History) (was told : Option Contents) (from : State) → IsIn extent was volume before from → volume ≡ Some opened → after_volume ≡ Some opened
-      → (seat : ℕ) (request : Request) → after.entries ≡ before.entries → after.choices ≡ before.choices → told ≡ was → ComesTo (seen disk extent volume before) (seen after_disk extent after_volume after) told from (Begin seat request) (replied reply.Memory)
-  no_memory volume after_volume opened before after was told from at some after_some seat request entries choices same =
+      → (seat : ℕ) (seated : IsSeat seat) (request : Request) → after.entries ≡ before.entries → after.choices ≡ before.choices → told ≡ was → ComesTo (seen disk extent volume before) (seen after_disk extent after_volume after) told from (Begin seat request) (replied reply.Memory)
+  no_memory volume after_volume opened before after was told from at some after_some seat seated request entries choices same =
       known volume after_volume (Some opened) (Some opened) before after was told from (Begin seat request) (replied reply.Memory) some after_some (λ is.
-      stays disk after_disk extent (Some opened) before after was told from is (Begin seat request) (replied reply.Memory) (step-memory (limits_of extent) from seat request) (λ short. inl short) entries choices same) at
+      stays disk after_disk extent (Some opened) before after was told from is (Begin seat request) (replied reply.Memory) (step-memory (limits_of extent) from seat seated request) (λ short. inl short) entries choices same) at
 
   pub already_open : (volume : Option Volume) (opened : Volume) (before after : History) (was told : Option Contents) (from : State) → IsIn extent was volume before from → volume ≡ Some opened
       → after.entries ≡ before.entries → after.choices ≡ before.choices → told ≡ was → ComesTo (seen disk extent volume before) (seen after_disk extent volume after) told from Mount AlreadyMounted
@@ -55,13 +60,13 @@ module _ {D : Type 0} (disk after_disk : D) (extent : Extent) where
       stays disk after_disk extent (Some opened) before after was told from is Mount AlreadyMounted (step-mounted (limits_of extent) from is.mode) (λ short. short) entries choices same) at
 
   pub unmounted : (volume : Option Volume) (before after : History) (was told : Option Contents) (from : State) → IsIn extent was volume before from → volume ≡ None
-      → after.entries ≡ before.entries → after.choices ≡ before.choices → told ≡ was → ComesTo (seen disk extent volume before) (seen after_disk extent volume after) told from Mount (machine.NotMounted machine.NoMemory)
+      → after.entries ≡ before.entries → after.choices ≡ before.choices → told ≡ was → ComesTo (seen disk extent volume before) (seen after_disk extent volume after) told from Mount (answers.NotMounted refusals.NoMemory)
   unmounted volume before after was told from at none entries choices same =
-      known volume volume None None before after was told from Mount (machine.NotMounted machine.NoMemory) none none (λ is.
-      stays disk after_disk extent None before after was told from is Mount (machine.NotMounted machine.NoMemory) (step-no_memory (limits_of extent) from is.mode) (λ short. short) entries choices same) at
+      known volume volume None None before after was told from Mount (answers.NotMounted refusals.NoMemory) none none (λ is.
+      stays disk after_disk extent None before after was told from is Mount (answers.NotMounted refusals.NoMemory) (step-no_memory (limits_of extent) from is.mode) (λ short. short) entries choices same) at
 
   pub unfound : (volume : Option Volume) (before after : History) (was told : Option Contents) (from : State) → IsIn extent was volume before from → volume ≡ None
-      → after.entries ≡ before.entries → after.choices ≡ before.choices → told ≡ was → ComesTo (seen disk extent volume before) (seen after_disk extent volume after) told from Mount (machine.NotMounted machine.BadImage)
+      → after.entries ≡ before.entries → after.choices ≡ before.choices → told ≡ was → ComesTo (seen disk extent volume before) (seen after_disk extent volume after) told from Mount (answers.NotMounted refusals.BadImage)
   unfound volume before after was told from at none entries choices same =
-      known volume volume None None before after was told from Mount (machine.NotMounted machine.BadImage) none none (λ is.
-      stays disk after_disk extent None before after was told from is Mount (machine.NotMounted machine.BadImage) (step-bad (limits_of extent) from is.mode) (λ short. short) entries choices same) at
+      known volume volume None None before after was told from Mount (answers.NotMounted refusals.BadImage) none none (λ is.
+      stays disk after_disk extent None before after was told from is Mount (answers.NotMounted refusals.BadImage) (step-bad (limits_of extent) from is.mode) (λ short. short) entries choices same) at

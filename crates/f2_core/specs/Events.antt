@@ -5,7 +5,14 @@ use Rattle.f2_format.specs.Geometry.{Extent}
 use Rattle.f2_disk.specs.Contents.{Contents}
 use Rattle.f2_model.specs.State.{State, initial}
 use Rattle.f2_model.specs.Step as machine
-use Rattle.f2_model.specs.Step.{Began, Stepped, Go, HasRisen, replied}
+use Rattle.f2_model.specs.declared.events.Answer.TheVariants as answers
+use Rattle.f2_model.specs.declared.events.Event.TheVariants as events
+use Rattle.f2_model.specs.declared.events.MountRefusal.TheVariants as refusals
+use Rattle.f2_model.specs.Step.{IsSeat, HasRisen, calm, replied}
+use Rattle.f2_model.specs.declared.events.Event.{Event}
+use Rattle.f2_model.specs.declared.events.Event.TheVariants.{Begin, Go, Mount}
+use Rattle.f2_model.specs.declared.events.Answer.{Answer}
+use Rattle.f2_model.specs.declared.events.Answer.TheVariants.{Began, Stepped}
 use Rattle.f2_model.specs.Run.{Happening, Happened, entries_of, choices_of}
 use Rattle.f2_model.specs.declared.replies.Begun.TheVariants.{Going, Replied}
 use Rattle.f2_model.specs.declared.replies.Plan.{Plan}
@@ -15,45 +22,22 @@ use Rattle.f2_model.specs.declared.replies.Step.TheVariants as step
 use Rattle.f2_model.specs.declared.requests.Request.{Request}
 use Rattle.f2_model.specs.declared.requests.Request.TheVariants.{Create, Write, Sync}
 use Rattle.f2_image.specs.Meanings.{IsSafe}
-use Rattle.f2_laid.specs.Laid.{root_alone}
 use Rattle.f2_flat.specs.Flat.{limits_of}
-use Rattle.f2_core.specs.Seen.{Seen, IsIn}
-use Rattle.f2_core.specs.declared.events.Event.{Event}
-use Rattle.f2_core.specs.declared.events.Event.TheVariants as event
-use Rattle.f2_core.specs.declared.events.Answer.{Answer}
-use Rattle.f2_core.specs.declared.events.Answer.TheVariants as answer
-use Rattle.f2_core.specs.declared.events.MountFault.{MountFault}
-use Rattle.f2_core.specs.declared.events.MountFault.TheVariants as fault
+use Rattle.f2_core.specs.Seen.{Seen, IsIn, new_image}
 
--- the calls that a core takes so far; a checkpoint of the mount's seat would be an unmount
+-- the calls that a core takes so far, from the seats that calls are made from
 abbrev pub IsServed : Event → Type 0
-IsServed (event.Begin seat (Create path)) = Unit {0}
-IsServed (event.Begin seat (Write path pieces)) = Unit {0}
-IsServed (event.Begin seat Sync) = seat ≢ machine.MOUNT_SEAT
-IsServed (event.Begin seat _) = ⊥
-IsServed event.Mount = Unit {0}
-
-abbrev pub event_of : Event → machine.Event
-event_of (event.Begin seat request) = machine.Begin seat request
-event_of event.Mount = machine.Mount
-
-abbrev pub refusal_of : MountFault → machine.MountRefusal
-refusal_of fault.Read = machine.ReadFailed
-refusal_of fault.Write = machine.WriteFailed
-refusal_of fault.Bad = machine.BadImage
-refusal_of fault.Memory = machine.NoMemory
-
-abbrev pub answer_of : Answer → machine.Answer
-answer_of (answer.Begun begun) = machine.Began begun
-answer_of (answer.Found rows) = machine.Found rows
-answer_of answer.Mounted = machine.AlreadyMounted
-answer_of (answer.Bad refused) = machine.NotMounted (refusal_of refused)
+IsServed (Begin seat (Create path)) = IsSeat seat
+IsServed (Begin seat (Write path pieces)) = IsSeat seat
+IsServed (Begin seat Sync) = IsSeat seat
+IsServed Mount = Unit {0}
+IsServed _ = ⊥
 
 -- the answers that tell a fault of the disk
-abbrev pub TellsFault : machine.Answer → Type 0
-TellsFault (machine.Began (Replied WriteFault)) = Unit {0}
-TellsFault (machine.NotMounted machine.ReadFailed) = Unit {0}
-TellsFault (machine.NotMounted machine.WriteFailed) = Unit {0}
+abbrev pub TellsFault : Answer → Type 0
+TellsFault (answers.Began (Replied WriteFault)) = Unit {0}
+TellsFault (answers.NotMounted refusals.ReadFailed) = Unit {0}
+TellsFault (answers.NotMounted refusals.WriteFailed) = Unit {0}
 TellsFault _ = ⊥
 
 -- no call of the disk failed in an event, so that it can tell no fault
@@ -71,7 +55,7 @@ pub record GoesOn (seat : ℕ) (told : Reply) (events : List Happening) : Type 0
   pub reply : last.turn.answer ≡ Stepped (step.Replied told)
 
 -- one event that is over with its answer
-pub record IsShort (event : machine.Event) (told : machine.Answer) (events : List Happening) : Type 0 where
+pub record IsShort (event : Event) (told : Answer) (events : List Happening) : Type 0 where
   pub one : Happening
   pub whole : events ≡ one ∷ []
   pub begun : one.event ≡ event
@@ -84,32 +68,32 @@ pub record IsLongCall (seat : ℕ) (request : Request) (told : Reply) (events : 
   pub rest : List Happening
   pub whole : events ≡ first ∷ rest
   pub plan : Plan
-  pub begun : first.event ≡ machine.Begin seat request
+  pub begun : first.event ≡ Begin seat request
   pub going : first.turn.answer ≡ Began (Going plan)
   pub quiet : IsQuiet first
   pub goes_on : GoesOn seat told rest
 
 -- the events of a call from its beginning to its reply
 abbrev pub IsCall : ℕ → Request → Reply → List Happening → Type 0
-IsCall seat request told events = IsShort (machine.Begin seat request) (replied told) events ⊎ IsLongCall seat request told events
+IsCall seat request told events = IsShort (Begin seat request) (replied told) events ⊎ IsLongCall seat request told events
 
 -- a mount that found a tree, and its checkpoint, which is done: it ends as a checkpoint does whose flush was made
 pub record IsMount (rows : ℕ) (events : List Happening) : Type 0 where
   pub first : Happening
   pub rest : List Happening
   pub whole : events ≡ first ∷ rest
-  pub begun : first.event ≡ machine.Mount
-  pub found : first.turn.answer ≡ machine.Found rows
+  pub begun : first.event ≡ Mount
+  pub found : first.turn.answer ≡ answers.Found rows
   pub quiet : IsQuiet first
   pub goes_on : GoesOn machine.MOUNT_SEAT Synced rest
 
 -- The events that one call of a core stands for: a call runs to its reply, and a mount that finds a tree makes its
 -- checkpoint; a call has a reply, and a mount an answer of its own.
-abbrev pub StandsFor : machine.Event → machine.Answer → List Happening → Type 0
-StandsFor (machine.Begin seat request) (machine.Began (Replied told)) events = IsCall seat request told events
-StandsFor machine.Mount (machine.Found rows) events = IsMount rows events
-StandsFor machine.Mount machine.AlreadyMounted events = IsShort machine.Mount machine.AlreadyMounted events
-StandsFor machine.Mount (machine.NotMounted refused) events = IsShort machine.Mount (machine.NotMounted refused) events
+abbrev pub StandsFor : Event → Answer → List Happening → Type 0
+StandsFor (Begin seat request) (answers.Began (Replied told)) events = IsCall seat request told events
+StandsFor Mount (answers.Found rows) events = IsMount rows events
+StandsFor Mount answers.AlreadyMounted events = IsShort Mount answers.AlreadyMounted events
+StandsFor Mount (answers.NotMounted refused) events = IsShort Mount (answers.NotMounted refused) events
 StandsFor _ _ events = ⊥
 
 -- the most entries that one call leaves
@@ -117,8 +101,8 @@ abbrev pub MOST_LEFT : ℕ
 MOST_LEFT = 4
 
 -- one call leads from a state to another by events of the machine
-pub record LeadsTo (extent : Extent) (from : State) (event : machine.Event) (told : machine.Answer) (events : List Happening) (to : State) : Type 0 where
-  pub happened : Happened (limits_of extent) from events to
+pub record LeadsTo (extent : Extent) (from : State) (event : Event) (told : Answer) (events : List Happening) (to : State) : Type 0 where
+  pub happened : Happened (limits_of extent) calm from events to
   pub stands : StandsFor event told events
   pub few : length (entries_of events) ≤ MOST_LEFT
 
@@ -131,7 +115,7 @@ pub record GoesTo {D : Type 0} (old new : Seen D) (told : Option Contents) (even
   pub safe : IfSome told (λ lists. IsSafe lists to)
 
 -- one call of a core that is in a state and meets no fault
-pub record ComesTo {D : Type 0} (old new : Seen D) (told : Option Contents) (from : State) (event : machine.Event) (answered : machine.Answer) : Type 0 where
+pub record ComesTo {D : Type 0} (old new : Seen D) (told : Option Contents) (from : State) (event : Event) (answered : Answer) : Type 0 where
   pub events : List Happening
   pub to : State
   pub leads : LeadsTo old.geometry from event answered events to
@@ -143,7 +127,7 @@ LeadAll extent from [] [] events to = (events ≡ []) × (from ≡ to)
 LeadAll extent from [] (answer ∷ answers) events to = ⊥
 LeadAll extent from (event ∷ rest) [] events to = ⊥
 LeadAll extent from (event ∷ rest) (answer ∷ answers) events to =
-    (some more : List Happening) × (mid : State) × LeadsTo extent from (event_of event) (answer_of answer) some mid × LeadAll extent mid rest answers more to × (events ≡ some ++ more)
+    (some more : List Happening) × (mid : State) × LeadsTo extent from event answer some mid × LeadAll extent mid rest answers more to × (events ≡ some ++ more)
 
 -- calls of a core one after another
 pub record ComeTo {D : Type 0} (old new : Seen D) (told : Option Contents) (from : State) (calls : List Event) (answers : List Answer) : Type 0 where
@@ -164,14 +148,14 @@ pub record ComeToFirst {D : Type 0} (old new : Seen D) (told : Option Contents) 
 pub record IsMade {D : Type 0} (extent : Extent) (told : Option Contents) (core : Seen D) : Type 0 where
   pub sizes : core.geometry ≡ extent
   pub closed : core.volume ≡ None
-  pub state : IsIn extent told core.volume core.history (initial root_alone [])
+  pub state : IsIn extent told core.volume core.history (initial new_image)
 
 -- a core lost power
 pub record HasCrashed {D : Type 0} (old new : Seen D) (told : Option Contents) (from : State) : Type 0 where
   pub one : Happening
-  pub event : one.event ≡ machine.Crash
+  pub event : one.event ≡ events.Crash
   pub quiet : IsQuiet one
-  pub happened : Happened (limits_of old.geometry) from (one ∷ []) one.turn.after
+  pub happened : Happened (limits_of old.geometry) calm from (one ∷ []) one.turn.after
   pub few : length (entries_of (one ∷ [])) ≤ MOST_LEFT
   pub closed : new.volume ≡ None
   pub goes : GoesTo old new told (one ∷ []) one.turn.after

@@ -7,8 +7,11 @@ use Rattle.f2_format.specs.Geometry.{Extent, IsGeometry}
 use Rattle.f2_disk.specs.Contents.{Contents, alone}
 use Rattle.f2_model.specs.Tree.{Rows, ROOT}
 use Rattle.f2_model.specs.declared.rows.Row.{Row}
-use Rattle.f2_model.specs.State.{State, Mode, Shut, Up, initial}
-use Rattle.f2_model.specs.Step.{is_up}
+use Rattle.f2_model.specs.State.{State, Meaning, initial}
+use Rattle.f2_model.specs.declared.modes.Mode.{Mode}
+use Rattle.f2_model.specs.declared.modes.Mode.TheVariants.{Shut, Up}
+use Rattle.f2_model.specs.Step.{calm, is_up}
+use Rattle.f2_model.specs.declared.modes.Format.TheVariants.{Two}
 use Rattle.f2_model.specs.Run.{IsRun}
 use Rattle.f2_model.specs.History.{History}
 use Rattle.f2_image.specs.Images.{Image}
@@ -59,21 +62,27 @@ pub record Knows (state : State) (stored : Stored) (volume : Volume) : Type 0 wh
   pub live : state.live ≡ volume.files
   pub told : volume.stored ≡ stored
 
+-- what a new image stands for: the root alone, by its first checkpoint
+abbrev pub new_image : Meaning
+new_image = record { base = root_alone; marks = []; format = Two; version = 1 }
+
 -- A core that has met no fault is in a state of the machine: one that its history leads to from the tree of the root
--- alone, in which nobody is in flight and nothing is marked, and whose base stands on the disk.
+-- alone, in which nobody is in flight and nothing is marked, and whose base and version stand on the disk.
 pub record IsIn (extent : Extent) (told : Option Contents) (volume : Option Volume) (history : History) (state : State) : Type 0 where
-  pub run : IsRun (limits_of extent) (initial root_alone []) history.entries history.choices state
+  pub run : IsRun (limits_of extent) calm (initial new_image) history.entries history.choices state
   pub mode : state.mode ≡ mode_of volume
   pub flights : state.flights ≡ map.empty
   pub marks : state.marks ≡ []
   pub acknowledged : state.acknowledged ≡ 0
   pub pending : state.pending ≡ None
+  pub format : state.format ≡ Two
   pub logged : state.logged ≡ set.empty
   pub entries : state.entries ≡ length history.entries
   pub flat : IsFlat extent state.base
   -- the base has the first of the live rows
   pub older : (ino : ℕ) (row : Row) → map.get state.base ino ≡ Some row → IfSome volume (λ (opened : Volume). ino < map.len opened.files + ROOT)
   pub stored : Stored
+  pub newest : stored.version ≡ state.version
   pub version : stored.version ≤ length history.entries + 1
   pub known : IfSome volume (Knows state stored)
   pub held : IfSome told (λ lists. IsHeld extent lists state.base stored)

@@ -2,35 +2,24 @@
 ghost use Rattle.std.specs.Prelude.{◌≡◌, ◌≢◌, ◌+◌, ◌<◌, ◌≤◌, ◌++◌, [], ◌∷◌, option_to_list};
 ghost use Rattle.f2_model.specs.declared.histories.Entry.TheVariants as entry;
 ghost use Rattle.f2_model.specs.declared.replies.Plan.TheVariants as plan;
-ghost use Rattle.f2_model.specs.declared.requests.Request.TheVariants.{Sync};
+ghost use Rattle.f2_model.specs.declared.events.MountRefusal.TheVariants.{BadImage, NoMemory};
 
-use crate::events::MountFault;
-use f2_model::{CallKind, Entry, Log, Plan, Request};
+use f2_model::{CallKind, Entry, Format, Log, MountRefusal, NO_SEAT, Plan};
 
-/// The seat that stands in a fault of a mount.
-const NO_SEAT: u8 = 255;
-
-/// That a seat began a sync.
-pub(crate) fn sync_begun(seat: u8) -> Entry
-    ensures { result ≡ entry.Begin seat Sync }
-{
-    Entry::Begin {
-        seat,
-        request: Request::Sync,
-    }
-}
+/// The format of the images that a core makes.
+const FORMAT: Format = Format::Two;
 
 /// Appends what a call left that made its whole checkpoint: its own entry, then that the checkpoint began, wrote its
 /// tail and was done.
 pub(crate) fn add_checkpoint(history: &mut Log, first: Entry, choice: Option<u32>, seat: u8)
     requires { 4 ≤ history.old.spare }
     ensures entries { history.new.entries ≡ history.old.entries ++ first ∷ entry.CpBegin seat plan.Sync ∷ entry.CpTail seat ∷ entry.CpDone seat ∷ [] }
-    ensures choices { history.new.choices ≡ history.old.choices ++ option_to_list choice }
+    ensures choices { history.new.choices ≡ history.old.choices ++ (option_to_list choice ++ 2 ∷ []) }
     ensures spare { history.new.spare + 4 ≡ history.old.spare }
 {
     history.add(first, choice);
     let plan = Plan::Sync;
-    history.add(Entry::CpBegin { seat, plan }, None);
+    history.add(Entry::CpBegin { seat, plan }, Some(FORMAT.number()));
     history.add(Entry::CpTail { seat }, None);
     history.add(Entry::CpDone { seat }, None);
 }
@@ -42,21 +31,21 @@ pub(crate) fn add_fault(history: &mut Log, first: Entry, choice: Option<u32>, se
 {
     history.add(first, choice);
     let plan = Plan::Sync;
-    history.add(Entry::CpBegin { seat, plan }, None);
+    history.add(Entry::CpBegin { seat, plan }, Some(FORMAT.number()));
     let kind = CallKind::Write;
     history.add(Entry::Fault { seat, kind, count }, None);
 }
 
 /// Appends the fault of the disk that kept a mount from finding a tree, where one did.
-pub(crate) fn add_unfound(history: &mut Log, fault: MountFault, count: u64)
+pub(crate) fn add_unfound(history: &mut Log, refused: MountRefusal, count: u64)
     requires { 1 ≤ history.old.spare }
-    ensures bad { fault ≡ MountFault.Bad → history.new ≡ history.old }
-    ensures memory { fault ≡ MountFault.Memory → history.new ≡ history.old }
+    ensures bad { refused ≡ BadImage → history.new ≡ history.old }
+    ensures memory { refused ≡ NoMemory → history.new ≡ history.old }
 {
-    let kind = match fault {
-        MountFault::Read => CallKind::Read,
-        MountFault::Write => CallKind::Flush,
-        MountFault::Bad | MountFault::Memory => return,
+    let kind = match refused {
+        MountRefusal::ReadFailed => CallKind::Read,
+        MountRefusal::WriteFailed => CallKind::Flush,
+        MountRefusal::BadImage | MountRefusal::NoMemory => return,
     };
     let seat = NO_SEAT;
     history.add(Entry::Fault { seat, kind, count }, None);

@@ -18,10 +18,8 @@
 mod changes;
 mod checkpoints;
 mod entries;
-mod events;
 mod machine;
 mod volumes;
 
-pub use events::{Answer, Event, MountFault};
 pub use machine::{Core, making_writes};
 pub use volumes::Volume;

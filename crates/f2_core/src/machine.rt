@@ -6,6 +6,10 @@ ghost use Rattle.f2_disk.specs.Meter.{HasFailed, HasMoreRoom, IsCalm, IsWithin};
 ghost use Rattle.f2_image.specs.Faults.{MOST_VERSION};
 ghost use Rattle.f2_model.specs.State.{State};
 ghost use Rattle.f2_model.specs.Step as machine;
+ghost use Rattle.f2_model.specs.declared.events.Answer.TheVariants as answers;
+ghost use Rattle.f2_model.specs.declared.events.Event.TheVariants as events;
+ghost use Rattle.f2_model.specs.Step.{IsSeat};
+ghost use Rattle.f2_model.specs.declared.events.MountRefusal.TheVariants.{BadImage, NoMemory, WriteFailed};
 ghost use Rattle.f2_model.specs.declared.requests.Request.TheVariants.{Sync};
 ghost use Rattle.f2_core.specs.Changes.{IsChange};
 ghost use Rattle.f2_core.specs.Events.{TellsFault};
@@ -13,24 +17,20 @@ ghost use Rattle.f2_core.specs.Writes.{checkpoint_writes, making_writes as most_
 
 use crate::changes::{Changed, change_files};
 use crate::checkpoints::find;
-use crate::entries::{add_checkpoint, add_fault, add_unfound, sync_begun};
-use crate::events::{Answer, Event, MountFault};
+use crate::entries::{add_checkpoint, add_fault, add_unfound};
 use crate::volumes::Volume;
 use f2_disk::{Bench, Disk};
 use f2_layout::Geometry;
-use f2_model::{Begun, Entry, Log, Reply, Request, Tree};
+use f2_model::{
+    Answer, Begun, BoxedRequest, Entry, Event, Log, MOST_ENTRIES, MOUNT_SEAT, MountRefusal, Reply,
+    Request, Tree,
+};
 use f2_plain_save::{SaveFault, mkfs, save};
 use std::alloc::{AllocError, Global};
 use std::marker::Model;
 
-/// A call begins only where the history has fewer entries.
-const MOST_ENTRIES: usize = 262_144;
-
 /// The entries for which a mount takes room: those before a call may begin, and 32,768 more.
 const HISTORY_ROOM: u32 = 294_912;
-
-/// The seat of a mount.
-const MOUNT_SEAT: u8 = 0;
 
 /// A volume on a disk, as a machine that takes one event at a time.
 #[derive(Drop)]
@@ -72,30 +72,30 @@ fn checkpoint_writes(geometry: &Geometry) -> u32
 }
 
 /// Why an image isn't made, by why its blocks weren't written.
-fn unsaved(fault: SaveFault) -> MountFault
-    ensures write { fault ≡ SaveFault.Write → result ≡ MountFault.Write }
-    ensures memory { fault ≡ SaveFault.Memory → result ≡ MountFault.Memory }
+fn unsaved(fault: SaveFault) -> MountRefusal
+    ensures write { fault ≡ SaveFault.Write → result ≡ WriteFailed }
+    ensures memory { fault ≡ SaveFault.Memory → result ≡ NoMemory }
 {
     match fault {
-        SaveFault::Write => MountFault::Write,
-        SaveFault::Memory => MountFault::Memory,
+        SaveFault::Write => MountRefusal::WriteFailed,
+        SaveFault::Memory => MountRefusal::NoMemory,
     }
 }
 
 impl<D: Disk> Core<D> {
-    ghost use Rattle.f2_core.specs.Events.{IsServed, IsMade, ComesTo, ComeTo, ComeToFirst, event_of, answer_of};
+    ghost use Rattle.f2_core.specs.Events.{IsServed, IsMade, ComesTo, ComeTo, ComeToFirst};
     ghost use Rattle.f2_core.specs.Seen.{IsIn, IsOpen, tree_of};
 
     /// Makes an image of these sizes with the root alone on a disk of any content, and gives a closed core on it, with an
     /// empty history. Where that fails the disk comes back; a fault of it may leave any part of the image.
-    pub fn made(alloc: Global, disk: D, geometry: Geometry) -> Result<Core<D>, (MountFault, D)>
+    pub fn made(alloc: Global, disk: D, geometry: Geometry) -> Result<Core<D>, (MountRefusal, D)>
         requires blocks { geometry.blocks ≤ (D.meter disk).blocks }
         ensures made { IfOk result (λ core. IsSome (D.contents disk) → IsMade geometry (D.contents core.disk) core) }
         ensures told { IfOk result (λ core. IsSome (D.contents disk) → IsSome (D.contents core.disk)) }
         ensures fresh { IfOk result (λ core. core ≡ record { disk = core.disk; geometry = geometry; volume = None; history = record { entries = []; choices = []; spare = 0 } }) }
         ensures within { IfOk result (λ core. IsWithin (most_making geometry) (D.meter disk) (D.meter core.disk)) }
         ensures back { IfErr result (λ back. IsWithin (most_making geometry) (D.meter disk) (D.meter back.1)) }
-        ensures cause { IfErr result (λ back. (back.0 ≡ MountFault.Memory) ⊎ ((back.0 ≡ MountFault.Write) × HasFailed (D.meter disk) (D.meter back.1))) }
+        ensures cause { IfErr result (λ back. (back.0 ≡ NoMemory) ⊎ ((back.0 ≡ WriteFailed) × HasFailed (D.meter disk) (D.meter back.1))) }
     {
         let mut disk = disk;
         if let Err(fault) = mkfs(alloc, &mut disk, geometry) {
@@ -115,26 +115,27 @@ impl<D: Disk> Core<D> {
         requires { IsServed event }
         ensures comes { (from : State) → IsSome (D.contents self.old.disk) → IsIn self.old.geometry (D.contents self.old.disk) self.old.volume self.old.history from
             → ¬ (HasFailed (D.meter self.old.disk) (D.meter self.new.disk))
-            → ComesTo self.old self.new (D.contents self.new.disk) from (event_of event) (answer_of result) }
+            → ComesTo self.old self.new (D.contents self.new.disk) from event result }
         // A disk that tells what it holds tells it afterwards too.
         ensures told { IsSome (D.contents self.old.disk) → IsSome (D.contents self.new.disk) }
         // The tree of a closed core is found as long as the versions of checkpoints last.
         ensures finds { (from : State) → IsSome (D.contents self.old.disk) → IsIn self.old.geometry (D.contents self.old.disk) self.old.volume self.old.history from
-            → length self.old.history.entries < MOST_VERSION → answer_of result ≢ machine.NotMounted machine.BadImage }
+            → length self.old.history.entries < MOST_VERSION → result ≢ answers.NotMounted BadImage }
         ensures geometry { self.new.geometry ≡ self.old.geometry }
         // A fault of the disk is answered only where its count rose.
-        ensures cause { TellsFault (answer_of result) → HasFailed (D.meter self.old.disk) (D.meter self.new.disk) }
+        ensures cause { TellsFault result → HasFailed (D.meter self.old.disk) (D.meter self.new.disk) }
         ensures within { IsWithin (checkpoint_writes self.old.geometry) (D.meter self.old.disk) (D.meter self.new.disk) }
     {
         match event {
             Event::Begin {
                 seat,
                 request: Request::Sync,
-            } => Answer::Begun(Begun::Replied(self.sync(seat))),
+            } => Answer::Began(Begun::Replied(self.sync(seat))),
             Event::Begin { seat, request } => {
-                Answer::Begun(Begun::Replied(self.change(seat, request)))
+                Answer::Began(Begun::Replied(self.change(seat, request)))
             }
             Event::Mount => self.mount(),
+            _ => unreachable!(),
         }
     }
 
@@ -180,9 +181,10 @@ impl<D: Disk> Core<D> {
 
     /// A seat changes files.
     fn change(&mut self, seat: u8, request: Request) -> Reply
-        requires { IsChange request }
+        requires change { IsChange request }
+        requires seat { IsSeat seat }
         ensures comes { (from : State) → IsIn self.old.geometry (D.contents self.old.disk) self.old.volume self.old.history from
-            → ComesTo self.old self.new (D.contents self.new.disk) from (machine.Begin seat request) (machine.replied result) }
+            → ComesTo self.old self.new (D.contents self.new.disk) from (events.Begin seat request) (machine.replied result) }
         ensures kept { (self.new.geometry ≡ self.old.geometry) × (self.new.disk ≡ self.old.disk) }
         ensures calm { ¬ (TellsFault (machine.replied result)) }
     {
@@ -198,8 +200,9 @@ impl<D: Disk> Core<D> {
     fn change_in(&mut self, volume: &mut Volume, seat: u8, request: Request) -> Reply
         requires opened { IsOpen self.old.geometry self.old.history volume.old }
         requires change { IsChange request }
+        requires seat { IsSeat seat }
         ensures comes { (from : State) → IsIn self.old.geometry (D.contents self.old.disk) (Some volume.old) self.old.history from
-            → ComesTo (record self.old { volume = Some volume.old }) (record self.new { volume = Some volume.new }) (D.contents self.new.disk) from (machine.Begin seat request) (machine.replied result) }
+            → ComesTo (record self.old { volume = Some volume.old }) (record self.new { volume = Some volume.new }) (D.contents self.new.disk) from (events.Begin seat request) (machine.replied result) }
         ensures opened { IsOpen self.new.geometry self.new.history volume.new }
         ensures kept { (self.new.geometry ≡ self.old.geometry) × (self.new.disk ≡ self.old.disk) }
         ensures calm { ¬ (TellsFault (machine.replied result)) }
@@ -207,7 +210,10 @@ impl<D: Disk> Core<D> {
         if self.history.len() >= MOST_ENTRIES {
             return Reply::Spent;
         }
-        let Ok(changed) = change_files(&mut volume.files, &self.geometry, &request) else {
+        let Ok(request) = BoxedRequest::new(self.alloc, request) else {
+            return Reply::Memory;
+        };
+        let Ok(changed) = change_files(&mut volume.files, &self.geometry, request.get()) else {
             return Reply::Memory;
         };
         let Changed { reply, choice } = changed;
@@ -222,10 +228,10 @@ impl<D: Disk> Core<D> {
 
     /// A seat makes a checkpoint of the whole tree.
     fn sync(&mut self, seat: u8) -> Reply
-        requires { seat ≢ machine.MOUNT_SEAT }
+        requires { IsSeat seat }
         ensures comes { (from : State) → IsSome (D.contents self.old.disk) → IsIn self.old.geometry (D.contents self.old.disk) self.old.volume self.old.history from
             → ¬ (HasFailed (D.meter self.old.disk) (D.meter self.new.disk))
-            → ComesTo self.old self.new (D.contents self.new.disk) from (machine.Begin seat Sync) (machine.replied result) }
+            → ComesTo self.old self.new (D.contents self.new.disk) from (events.Begin seat Sync) (machine.replied result) }
         ensures told { IsSome (D.contents self.old.disk) → IsSome (D.contents self.new.disk) }
         ensures geometry { self.new.geometry ≡ self.old.geometry }
         ensures cause { TellsFault (machine.replied result) → HasFailed (D.meter self.old.disk) (D.meter self.new.disk) }
@@ -238,6 +244,11 @@ impl<D: Disk> Core<D> {
             self.volume = Some(volume);
             return Reply::Spent;
         }
+        let Ok(request) = BoxedRequest::new(self.alloc, Request::Sync) else {
+            self.volume = Some(volume);
+            return Reply::Memory;
+        };
+        let begun = Entry::Begin { seat, request };
         match save(
             self.alloc,
             &mut self.disk,
@@ -247,15 +258,16 @@ impl<D: Disk> Core<D> {
             Ok(stored) => {
                 let files = volume.files;
                 self.volume = Some(Volume { files, stored });
-                add_checkpoint(&mut self.history, sync_begun(seat), None, seat);
+                add_checkpoint(&mut self.history, begun, None, seat);
                 Reply::Synced
             }
             Err(SaveFault::Write) => {
                 let count = self.disk.faults();
-                add_fault(&mut self.history, sync_begun(seat), None, seat, count);
+                add_fault(&mut self.history, begun, None, seat, count);
                 Reply::WriteFault
             }
             Err(SaveFault::Memory) => {
+                drop(begun);
                 self.volume = Some(volume);
                 Reply::Memory
             }
@@ -266,25 +278,25 @@ impl<D: Disk> Core<D> {
     fn mount(&mut self) -> Answer
         ensures comes { (from : State) → IsSome (D.contents self.old.disk) → IsIn self.old.geometry (D.contents self.old.disk) self.old.volume self.old.history from
             → ¬ (HasFailed (D.meter self.old.disk) (D.meter self.new.disk))
-            → ComesTo self.old self.new (D.contents self.new.disk) from machine.Mount (answer_of result) }
+            → ComesTo self.old self.new (D.contents self.new.disk) from events.Mount result }
         ensures told { IsSome (D.contents self.old.disk) → IsSome (D.contents self.new.disk) }
         ensures finds { (from : State) → IsSome (D.contents self.old.disk) → IsIn self.old.geometry (D.contents self.old.disk) self.old.volume self.old.history from
-            → length self.old.history.entries < MOST_VERSION → answer_of result ≢ machine.NotMounted machine.BadImage }
+            → length self.old.history.entries < MOST_VERSION → result ≢ answers.NotMounted BadImage }
         ensures geometry { self.new.geometry ≡ self.old.geometry }
-        ensures cause { TellsFault (answer_of result) → HasFailed (D.meter self.old.disk) (D.meter self.new.disk) }
+        ensures cause { TellsFault result → HasFailed (D.meter self.old.disk) (D.meter self.new.disk) }
         ensures within { IsWithin (checkpoint_writes self.old.geometry) (D.meter self.old.disk) (D.meter self.new.disk) }
     {
         if self.volume.is_some() {
-            return Answer::Mounted;
+            return Answer::AlreadyMounted;
         }
         if self.history.room(HISTORY_ROOM).is_err() {
-            return Answer::Bad(MountFault::Memory);
+            return Answer::NotMounted(MountRefusal::NoMemory);
         }
         let Volume { files, stored } = match find(self.alloc, &mut self.disk, &self.geometry) {
             Ok(volume) => volume,
-            Err(fault) => {
-                add_unfound(&mut self.history, fault, self.disk.faults());
-                return Answer::Bad(fault);
+            Err(refused) => {
+                add_unfound(&mut self.history, refused, self.disk.faults());
+                return Answer::NotMounted(refused);
             }
         };
         match save(self.alloc, &mut self.disk, &stored, files.tree()) {
@@ -298,9 +310,9 @@ impl<D: Disk> Core<D> {
                 let count = self.disk.faults();
                 let mounted = Entry::Mounted { rows: 0 };
                 add_fault(&mut self.history, mounted, Some(0), MOUNT_SEAT, count);
-                Answer::Bad(MountFault::Write)
+                Answer::NotMounted(MountRefusal::WriteFailed)
             }
-            Err(SaveFault::Memory) => Answer::Bad(MountFault::Memory),
+            Err(SaveFault::Memory) => Answer::NotMounted(MountRefusal::NoMemory),
         }
     }
 }

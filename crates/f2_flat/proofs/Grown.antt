@@ -7,7 +7,8 @@ use Rattle.std.specs.FinMap as map
 use Rattle.f2_format.specs.Geometry.{Extent, IsGeometry, node_third, data_third, nid_limit}
 use Rattle.f2_format.specs.Packing.{slots_of_name}
 use Rattle.f2_model.specs.Tree.{Rows, ROOT, IsGoodTree, is_directory, walk, parent_path, last_name}
-use Rattle.f2_model.specs.Call.{walk_parent, to_directory, refusal, space_refusal, new_row, effect, first_refusal}
+use Rattle.f2_model.specs.Call.{walk_parent, to_directory, refusal, space_refusal, new_row, effect}
+use Rattle.f2_model.specs.Lists.{first_some}
 use Rattle.f2_model.specs.Count.{nodes_of_tree, data_of_tree}
 use Rattle.f2_model.specs.declared.rows.Row.{Row}
 use Rattle.f2_model.specs.declared.rows.Kind.{Kind}
@@ -96,7 +97,7 @@ space_by_data extent tree nodes =
     let first : nat_lt (node_third extent) (nodes_of_tree tree) ≡ false = not_lt (node_third extent) (nodes_of_tree tree) nodes in
     rw first (by_test (nat_lt (data_third extent) (data_of_tree tree)) (NoSpace Data (data_of_tree tree) (data_third extent)))
   where
-    by_test : (b : Bool) (reply : Reply) → first_refusal (then_some b reply ∷ []) ≡ then_some b reply
+    by_test : (b : Bool) (reply : Reply) → first_some (then_some b reply ∷ []) ≡ then_some b reply
     by_test true reply = refl
     by_test false reply = refl
 

@@ -3,13 +3,15 @@ use Rattle.std.specs.Prelude.{IsSome}
 use Rattle.f2_disk.specs.Contents.{WhereTold}
 use Rattle.f2_disk.specs.Meter.{HasFailed}
 use Rattle.f2_model.specs.State.{State}
-use Rattle.f2_model.specs.Step as machine
-use Rattle.f2_model.specs.Step.{Mount, MOUNT_SEAT}
+use Rattle.f2_model.specs.declared.events.Answer.TheVariants as answers
+use Rattle.f2_model.specs.declared.events.MountRefusal.TheVariants as refusals
+use Rattle.f2_model.specs.Step.{MOUNT_SEAT}
+use Rattle.f2_model.specs.declared.events.Event.TheVariants.{Mount}
 use Rattle.f2_model.specs.declared.replies.Plan.TheVariants as plan
 use Rattle.f2_model.specs.declared.histories.Entry.TheVariants as entry
 use Rattle.f2_laid.specs.Laid.{IsStorable}
 use Rattle.f2_core.specs.Seen.{IsIn}
-use Rattle.f2_core.specs.Events.{ComesTo, refusal_of}
+use Rattle.f2_core.specs.Events.{ComesTo}
 use Rattle.f2_plain_save.specs.Saves.{IsSaved}
 use Rattle.f2_core.specs.declared.volumes.Volume.{Volume}
 use Rattle.f2_core.proofs.Comes.{seen}
@@ -26,7 +28,7 @@ returns-then-is_some-clause-comes g c =
     let told = g.D.Disk.contents was.disk in
     let some = some_of was.volume (sym c.is_some.ensures ∙ c.if-is_some.true) in
     subst (λ s. (from : State) → IsSome (g.D.Disk.contents s.disk) → IsIn s.geometry (g.D.Disk.contents s.disk) s.volume s.history from → ¬ (HasFailed (g.D.Disk.meter s.disk) (g.D.Disk.meter s.disk))
-    → ComesTo s s (g.D.Disk.contents s.disk) from Mount machine.AlreadyMounted) c.self.view_is (λ from tells is calm.
+    → ComesTo s s (g.D.Disk.contents s.disk) from Mount answers.AlreadyMounted) c.self.view_is (λ from tells is calm.
     already_open was.disk was.disk was.geometry was.volume some.0 was.history was.history told told from is some.1 refl refl refl)
 
 pub returns-then-is_err-clause-comes : goal.returns-then-is_err-clause-comes
@@ -36,7 +38,7 @@ returns-then-is_err-clause-comes g c =
     let none = none_of was.volume (sym c.is_some.ensures ∙ c.if-is_some.false) in
     let same = on_err c.room.result (sym c.is_err.ensures.value ∙ c.if-is_err.true) c.room.ensures.err in
     subst (λ s. (from : State) → IsSome (g.D.Disk.contents s.disk) → IsIn s.geometry (g.D.Disk.contents s.disk) s.volume s.history from → ¬ (HasFailed (g.D.Disk.meter s.disk) (g.D.Disk.meter was.disk))
-    → ComesTo s (seen was.disk was.geometry was.volume c.room.new.self) told from Mount (machine.NotMounted machine.NoMemory)) c.self.view_is (λ from tells is calm.
+    → ComesTo s (seen was.disk was.geometry was.volume c.room.new.self) told from Mount (answers.NotMounted refusals.NoMemory)) c.self.view_is (λ from tells is calm.
     unmounted was.disk was.disk was.geometry was.volume was.history c.room.new.self told told from is none (ap (λ h. h.entries) same) (ap (λ h. h.choices) same) refl)
 
 pub returns-in-Err-clause-comes : goal.returns-in-Err-clause-comes
@@ -47,8 +49,8 @@ returns-in-Err-clause-comes g c =
     let none = none_of was.volume (sym c.is_some.ensures ∙ c.if-is_some.false) in
     let taken = on_ok c.room.result (sym c.is_err.ensures.value ∙ c.if-is_err.false) c.room.ensures.ok in
     subst (λ s. (from : State) → IsSome (g.D.Disk.contents s.disk) → IsIn s.geometry (g.D.Disk.contents s.disk) s.volume s.history from → ¬ (HasFailed (g.D.Disk.meter s.disk) (g.D.Disk.meter c.find.new.disk))
-    → ComesTo s (seen c.find.new.disk was.geometry was.volume c.add_unfound.new.history) after from Mount (machine.NotMounted (refusal_of c.in-Err.fault))) c.self.view_is (λ from tells is calm.
-    not_found was.disk c.find.new.disk was.geometry was.volume was.history c.room.new.self c.add_unfound.new.history told after from c.in-Err.fault is none
+    → ComesTo s (seen c.find.new.disk was.geometry was.volume c.add_unfound.new.history) after from Mount (answers.NotMounted c.in-Err.refused)) c.self.view_is (λ from tells is calm.
+    not_found was.disk c.find.new.disk was.geometry was.volume was.history c.room.new.self c.add_unfound.new.history told after from c.in-Err.refused is none
     (λ failed. calm (c.in-Err.ensures.cause (elim failed [ inl read ↦ inl (ap (λ e. Err e) read) | inr write ↦ inr (ap (λ e. Err e) write) ])))
     c.add_unfound.ensures.bad c.add_unfound.ensures.memory (ap (λ h. h.entries) taken) (ap (λ h. h.choices) taken)
     (still_told was.geometry told after from.base is.stored tells is.held c.in-Err.ensures.kept))
@@ -72,14 +74,14 @@ returns-in-Ok-save-clause-comes g c =
     let saved = subst (λ files. WhereTold mid after (IsSaved volume.stored files c.in-Ok-save.stored)) c.tree.ensures c.in-Ok-save.ensures.saved in
     let more = entry.CpBegin MOUNT_SEAT plan.Sync ∷ entry.CpTail MOUNT_SEAT ∷ entry.CpDone MOUNT_SEAT ∷ [] in
     subst (λ s. (from : State) → IsSome (g.D.Disk.contents s.disk) → IsIn s.geometry (g.D.Disk.contents s.disk) s.volume s.history from → ¬ (HasFailed (g.D.Disk.meter s.disk) (g.D.Disk.meter c.save.new.disk))
-    → ComesTo s (seen c.save.new.disk was.geometry (Some new) c.add_checkpoint.new.history) after from Mount (machine.Found 0)) c.self.view_is (λ from tells is calm.
+    → ComesTo s (seen c.save.new.disk was.geometry (Some new) c.add_checkpoint.new.history) after from Mount (answers.Found 0)) c.self.view_is (λ from tells is calm.
     let closed = subst (λ v. IsIn was.geometry told v was.history from) none is in
     let same = found_is was.geometry told from.base closed.stored volume tells closed.flat closed.held c.in-Ok.ensures.found in
     let still = still_told was.geometry told mid from.base closed.stored tells closed.held c.in-Ok.ensures.kept in
-    subst (λ v. ComesTo (seen was.disk was.geometry v was.history) (seen c.save.new.disk was.geometry (Some new) c.add_checkpoint.new.history) after from Mount (machine.Found 0)) (sym none)
+    subst (λ v. ComesTo (seen was.disk was.geometry v was.history) (seen c.save.new.disk was.geometry (Some new) c.add_checkpoint.new.history) after from Mount (answers.Found 0)) (sym none)
     (mounts was.disk c.save.new.disk was.geometry told after was.history c.add_checkpoint.new.history from c.in-Ok-save.stored closed volume tells same.0 same.1
     c.in-Ok-save.ensures.next.geometry c.in-Ok-save.ensures.version (subst (λ o. WhereTold o after (IsSaved volume.stored volume.files c.in-Ok-save.stored)) still saved)
-    (c.add_checkpoint.ensures.entries ∙ ap (λ h. h.entries ++ entry.Mounted 0 ∷ more) taken) (c.add_checkpoint.ensures.choices ∙ ap (λ h. h.choices ++ 0 ∷ []) taken)))
+    (c.add_checkpoint.ensures.entries ∙ ap (λ h. h.entries ++ entry.Mounted 0 ∷ more) taken) (c.add_checkpoint.ensures.choices ∙ ap (λ h. h.choices ++ 0 ∷ 2 ∷ []) taken)))
 
 pub returns-clause-comes : goal.returns-clause-comes
 returns-clause-comes g c =
@@ -91,6 +93,6 @@ returns-clause-comes g c =
     let taken = on_ok c.room.result (sym c.is_err.ensures.value ∙ c.if-is_err.false) c.room.ensures.ok in
     let same = (c.in-Err-Memory.ensures.memory (ap (λ e. Err e) c.in-Err-Memory.field-0-is)).0 in
     subst (λ s. (from : State) → IsSome (g.D.Disk.contents s.disk) → IsIn s.geometry (g.D.Disk.contents s.disk) s.volume s.history from → ¬ (HasFailed (g.D.Disk.meter s.disk) (g.D.Disk.meter c.save.new.disk))
-    → ComesTo s (seen c.save.new.disk was.geometry was.volume c.room.new.self) after from Mount (machine.NotMounted machine.NoMemory)) c.self.view_is (λ from tells is calm.
+    → ComesTo s (seen c.save.new.disk was.geometry was.volume c.room.new.self) after from Mount (answers.NotMounted refusals.NoMemory)) c.self.view_is (λ from tells is calm.
     unmounted was.disk c.save.new.disk was.geometry was.volume was.history c.room.new.self told after from is none (ap (λ h. h.entries) taken) (ap (λ h. h.choices) taken)
     (same ∙ still_told was.geometry told mid from.base is.stored tells is.held c.in-Ok.ensures.kept))
