@@ -2,7 +2,7 @@
 //! fail one after another; and the one call of the core that no script makes.
 ghost use Rattle.f2_core.specs.Events.{IsServed};
 
-use f2_core::{Core, Event, making_writes};
+use f2_core::{Core, making_writes};
 use f2_disk::{Bench, Disk, MemBench, MemDisk, MemSink, MemSource};
 use f2_layout::Geometry;
 use f2_model::Request;

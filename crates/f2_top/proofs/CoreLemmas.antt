@@ -7,9 +7,15 @@ use Rattle.f2_model.specs.declared.bounds.Limits.{Limits}
 use Rattle.f2_model.specs.declared.requests.Request.{Request}
 use Rattle.f2_model.specs.declared.replies.Reply.{Reply}
 use Rattle.f2_model.specs.declared.replies.Reply.TheVariants as reply
-use Rattle.f2_model.specs.State.{State, Mode}
+use Rattle.f2_model.specs.State.{State}
+use Rattle.f2_model.specs.declared.modes.Mode.{Mode}
 use Rattle.f2_model.specs.Step as machine
-use Rattle.f2_model.specs.Step.{Faults, Turn, Step, Crashed, replied, is_up}
+use Rattle.f2_model.specs.declared.events.Answer.{Answer}
+use Rattle.f2_model.specs.declared.events.Event.{Event}
+use Rattle.f2_model.specs.declared.events.Answer.TheVariants as answers
+use Rattle.f2_model.specs.declared.events.Event.TheVariants as events
+use Rattle.f2_model.specs.Step.{Faults, Turn, Step, replied, is_up}
+use Rattle.f2_model.specs.declared.events.Answer.TheVariants.{Crashed}
 use Rattle.f2_laid.specs.declared.stored.Stored.{Stored}
 use Rattle.f2_core.specs.declared.volumes.Volume.{Volume}
 use Rattle.f2_core.specs.Seen.{Seen, IsIn, Knows, live_where_up, mode_of, tree_of}
@@ -53,7 +59,7 @@ none-failed : (first mid last : Meter) → CountsFaults first → mid.faults ≡
 none-failed first mid last counts same still failed = omega arith
 
 -- a core that took room for an event on a calm bench
-Comes-ready : {D : Type 0} (before middle now : Option Contents) (old mid new : Seen D) (event : machine.Event) (answered : machine.Answer)
+Comes-ready : {D : Type 0} (before middle now : Option Contents) (old mid new : Seen D) (event : Event) (answered : Answer)
     → mid ≡ record old { disk = mid.disk } → middle ≡ before → Comes middle now mid new event answered → Comes before now old new event answered
 Comes-ready before middle now old mid new event answered kept same comes =
     let told : Comes before now mid new event answered = subst (λ (t : Option Contents). Comes t now mid new event answered) same comes in
@@ -71,7 +77,7 @@ Comes-ready before middle now old mid new event answered kept same comes =
     }
 
 -- it comes to what the event stands for
-pub Comes-calm : {D : Type 0} (before middle now : Option Contents) (old mid new : Seen D) (first ready last : Meter) (room : ℕ) (event : machine.Event) (answered : machine.Answer)
+pub Comes-calm : {D : Type 0} (before middle now : Option Contents) (old mid new : Seen D) (first ready last : Meter) (room : ℕ) (event : Event) (answered : Answer)
     → IsCalmMeter first → CountsFaults first → HasMoreRoom first ready → room ≤ ready.spare → room ≡ checkpoint_writes old.geometry
     → mid ≡ record old { disk = mid.disk } → middle ≡ before → IsWithin (checkpoint_writes mid.geometry) ready last
     → ((from : State) → IsSome middle → IsIn mid.geometry middle mid.volume mid.history from → ¬ (HasFailed ready last) → ComesTo mid new now from event answered)
@@ -99,7 +105,7 @@ StaysCalm-anew blocks bench started ready made room making calm more has is with
 
 -- a call that was replied to, and the line that was printed for it
 pub PlaysOn-call : {D : Type 0} (before now : Option Contents) (old new : Seen D) (seat : ℕ) (request : Request) (told : Reply) (text : List ℕ)
-    → Comes before now old new (machine.Begin seat request) (replied told) → told ≢ reply.Memory → text ≡ reply_spelling told ++ 10 ∷ []
+    → Comes before now old new (events.Begin seat request) (replied told) → told ≢ reply.Memory → text ≡ reply_spelling told ++ 10 ∷ []
     → PlaysOn before now old new (Call seat request) text
 PlaysOn-call before now old new seat request told text comes some printed from at =
     let come = comes.from_each from at.tells at.in_state in (
@@ -115,7 +121,7 @@ PlaysOn-call before now old new seat request told text comes some printed from a
 
 -- a mount that found a tree, and one of an open volume
 pub PlaysOn-found : {D : Type 0} (before now : Option Contents) (old new : Seen D) (rows : ℕ) (text : List ℕ)
-    → Comes before now old new machine.Mount (machine.Found rows) → text ≡ found_spelling rows ++ 10 ∷ [] → PlaysOn before now old new kind.Mount text
+    → Comes before now old new events.Mount (answers.Found rows) → text ≡ found_spelling rows ++ 10 ∷ [] → PlaysOn before now old new kind.Mount text
 PlaysOn-found before now old new rows text comes printed from at =
     let come = comes.from_each from at.tells at.in_state in (
       come.to,
@@ -129,7 +135,7 @@ PlaysOn-found before now old new rows text comes printed from at =
     )
 
 pub PlaysOn-already : {D : Type 0} (before now : Option Contents) (old new : Seen D) (text : List ℕ)
-    → Comes before now old new machine.Mount machine.AlreadyMounted → text ≡ mounted_spelling ++ 10 ∷ [] → PlaysOn before now old new kind.Mount text
+    → Comes before now old new events.Mount answers.AlreadyMounted → text ≡ mounted_spelling ++ 10 ∷ [] → PlaysOn before now old new kind.Mount text
 PlaysOn-already before now old new text comes printed from at =
     let come = comes.from_each from at.tells at.in_state in (
       come.to,
@@ -143,9 +149,9 @@ PlaysOn-already before now old new text comes printed from at =
     )
 
 -- what a crash answers
-crash-answers : (limits : Limits) (faults : Faults) (from : State) (event : machine.Event) (turn : Turn) → event ≡ machine.Crash → Step limits faults from event turn → turn.answer ≡ Crashed
+crash-answers : (limits : Limits) (faults : Faults) (from : State) (event : Event) (turn : Turn) → event ≡ events.Crash → Step limits faults from event turn → turn.answer ≡ Crashed
 crash-answers limits faults from event turn is step =
-    let crash : Step limits faults from machine.Crash turn = subst (λ (e : machine.Event). Step limits faults from e turn) is step in
+    let crash : Step limits faults from events.Crash turn = subst (λ (e : Event). Step limits faults from e turn) is step in
     ap (λ (t : Turn). t.answer) crash
 
 -- a crash
@@ -159,7 +165,7 @@ PlaysOn-crash before now old new pick text crashes told printed from at =
         part = record { text = text; events = crash.one ∷ []; after = crash.one.turn.after };
         line_played = record {
           happened = crash.happened;
-          once = record { one = crash.one; whole = refl; begun = crash.event; answered = crash-answers _ _ from crash.one.event crash.one.turn crash.event crash.happened.0; quiet = crash.quiet };
+          once = record { one = crash.one; whole = refl; begun = crash.event; answered = crash-answers _ _ from crash.one.event crash.one.turn crash.event crash.happened.2; quiet = crash.quiet };
           text = printed;
         };
         printed = refl;

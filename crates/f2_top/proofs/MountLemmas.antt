@@ -12,10 +12,13 @@ use Rattle.f2_model.specs.declared.bounds.Limits.{Limits}
 use Rattle.f2_model.specs.Run.{Happening, Happened}
 use Rattle.f2_model.specs.State.{State, Mark, initial}
 use Rattle.f2_model.specs.Step as machine
-use Rattle.f2_model.specs.Step.{Faults, Turn, Found, NotMounted, ReadFailed, WriteFailed, BadImage, NoMemory, Step, StepMount}
-use Rattle.f2_laid.specs.Laid.{root_alone}
+use Rattle.f2_model.specs.declared.events.Event.{Event}
+use Rattle.f2_model.specs.declared.events.Event.TheVariants as events
+use Rattle.f2_model.specs.Step.{Faults, calm, Turn, Step, StepMount}
+use Rattle.f2_model.specs.declared.events.Answer.TheVariants.{Found, NotMounted}
+use Rattle.f2_model.specs.declared.events.MountRefusal.TheVariants.{ReadFailed, WriteFailed, BadImage, NoMemory}
 use Rattle.f2_flat.specs.Flat.{limits_of}
-use Rattle.f2_core.specs.Seen.{Seen, IsIn}
+use Rattle.f2_core.specs.Seen.{Seen, IsIn, new_image}
 use Rattle.f2_core.specs.Events.{IsMade, IsMount}
 use Rattle.f2_script.specs.declared.script.Line.{Line}
 use Rattle.f2_script.specs.declared.script.Line.TheVariants.{Mkfs}
@@ -45,7 +48,7 @@ geometry_of-ok e g h =
     cc
 
 -- a mount of a fresh image finds no marked row
-pub mount-finds-none : (faults : Faults) (turn : Turn) (rows : ℕ) → StepMount faults (initial root_alone []) turn → turn.answer ≡ Found rows → rows ≡ 0
+pub mount-finds-none : (faults : Faults) (turn : Turn) (rows : ℕ) → StepMount faults (initial new_image) turn → turn.answer ≡ Found rows → rows ≡ 0
 mount-finds-none faults turn rows (inl (k, low, high, e)) told =
     let a : Found (length (take k no_marks)) ≡ Found rows = sym (ap (λ (t : Turn). t.answer) e) ∙ told in
     let n : length (take k no_marks) ≡ rows = cc in
@@ -62,11 +65,11 @@ mount-finds-none faults turn rows (inr (inr (inr (inr (inr e))))) told =
 
 -- the events of a mount that found a tree on a fresh image, found no marked row
 found-none : (limits : Limits) (rows : ℕ) (events : List Happening) (to : State)
-    → Happened limits (initial root_alone []) events to → IsMount rows events → IsMount 0 events
+    → Happened limits calm (initial new_image) events to → IsMount rows events → IsMount 0 events
 found-none limits rows events to happened mount =
-    let first : Happened limits (initial root_alone []) (mount.first ∷ mount.rest) to = subst (λ es. Happened limits (initial root_alone []) es to) mount.whole happened in
-    let step : StepMount mount.first.faults (initial root_alone []) mount.first.turn =
-    subst (λ (e : machine.Event). Step limits mount.first.faults (initial root_alone []) e mount.first.turn) mount.begun first.0 in
+    let first : Happened limits calm (initial new_image) (mount.first ∷ mount.rest) to = subst (λ es. Happened limits calm (initial new_image) es to) mount.whole happened in
+    let step : StepMount mount.first.faults (initial new_image) mount.first.turn =
+    subst (λ (e : Event). Step limits mount.first.faults (initial new_image) e mount.first.turn) mount.begun first.2 in
     record {
       first = mount.first;
       rest = mount.rest;
@@ -79,11 +82,11 @@ found-none limits rows events to happened mount =
 
 -- a core that was mounted on an image that was made with these sizes
 pub IsMounted-of : {D : Type 0} (extent : Extent) (made now : Option Contents) (core new : Seen D) (rows : ℕ)
-    → IsSome made → IsMade extent made core → Comes made now core new machine.Mount (Found rows) → new.geometry ≡ core.geometry → IsMounted extent now new
+    → IsSome made → IsMade extent made core → Comes made now core new events.Mount (Found rows) → new.geometry ≡ core.geometry → IsMounted extent now new
 IsMounted-of extent made now core new rows tells is comes sized =
-    let state : IsIn core.geometry made core.volume core.history (initial root_alone []) = subst (λ (e : Extent). IsIn e made core.volume core.history (initial root_alone [])) (sym is.sizes) is.state in
-    let come = comes.from_each (initial root_alone []) tells state in
-    let happened : Happened (limits_of extent) (initial root_alone []) come.events come.to = subst (λ (e : Extent). Happened (limits_of e) (initial root_alone []) come.events come.to) is.sizes come.leads.happened in
+    let state : IsIn core.geometry made core.volume core.history (initial new_image) = subst (λ (e : Extent). IsIn e made core.volume core.history (initial new_image)) (sym is.sizes) is.state in
+    let come = comes.from_each (initial new_image) tells state in
+    let happened : Happened (limits_of extent) calm (initial new_image) come.events come.to = subst (λ (e : Extent). Happened (limits_of e) calm (initial new_image) come.events come.to) is.sizes come.leads.happened in
     record {
       mounted = come.events;
       start = come.to;

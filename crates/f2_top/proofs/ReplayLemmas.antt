@@ -13,7 +13,8 @@ use Rattle.f2_script.specs.declared.script.ScriptFault.TheVariants as fault
 use Rattle.f2_script.specs.Grammar.{IsFirstFault, IsLine, AreLines, IsTooLong, MayFollow, Spells, lines_of, takes}
 use Rattle.f2_script.specs.Lines.{Seat, request_words}
 use Rattle.f2_script.specs.Words.{Word, Said, AreWords, split_words}
-use Rattle.f2_model.specs.Step.{MOUNT_SEAT}
+use Rattle.f2_model.specs.Step.{IsSeat}
+use Rattle.f2_model.specs.declared.requests.Request.{Request}
 use Rattle.f2_top.specs.declared.status.Status.{Status}
 use Rattle.f2_top.specs.declared.status.Status.TheVariants as status
 use Rattle.f2_top.specs.Endings.{IsSilent, last_line}
@@ -25,22 +26,22 @@ use Rattle.std.specs.Io.KnownBytes.{Appends}
 use Rattle.std.proofs.KnownBytes.{Appends-nil, Appends-trans}
 use Rattle.f2_top.specs.Streams.{IsCutAfter}
 
--- the seat of a call is 1 at least
-seat-low : (seat : ℕ) (words : List Word) (texts : List (List ℕ)) → AreWords (Said (codes "call") ∷ Seat seat ∷ words) texts → 1 ≤ seat
-seat-low seat words [] h = absurd h
-seat-low seat words (text ∷ []) h = absurd h.1
-seat-low seat words (text ∷ next ∷ texts) h = h.1.0.0
+-- the seat of a call is one that calls are made from
+seated : (seat : ℕ) (words : List Word) (texts : List (List ℕ)) → AreWords (Said (codes "call") ∷ Seat seat ∷ words) texts → IsSeat seat
+seated seat words [] h = absurd h
+seated seat words (text ∷ []) h = absurd h.1
+seated seat words (text ∷ next ∷ texts) h = record { first = h.1.0.0; last = (let most = h.1.0.1 in omega (arith, most)) }
 
-synced-seat : (text : List ℕ) (seat : ℕ) → IsLine text (Call seat request.Sync) → seat ≢ MOUNT_SEAT
-synced-seat text seat (inl (nothing, is)) zero = absurd (cc)
-synced-seat text seat (inr (limits, words)) zero = let low : 1 ≤ seat = seat-low seat (request_words request.Sync) (split_words text) words in omega (arith, low, zero)
+call-seated : (text : List ℕ) (seat : ℕ) (asked : Request) → IsLine text (Call seat asked) → IsSeat seat
+call-seated text seat asked (inl (nothing, is)) = absurd (cc)
+call-seated text seat asked (inr (limits, words)) = seated seat (request_words asked) (split_words text) words
 
 -- a line that the grammar takes after the first can be played
 playable-line : (text : List ℕ) (line : Line) → IsLine text line → takes grammar.Replay line ≡ true → MayFollow true line → IsPlayable line
 playable-line text (Mkfs blocks nat) is taken follows = let e : true ≡ false = follows in absurd (cc)
-playable-line text (Call seat (request.Create path)) is taken follows = tt
-playable-line text (Call seat (request.Write path pieces)) is taken follows = tt
-playable-line text (Call seat request.Sync) is taken follows = synced-seat text seat is
+playable-line text (Call seat (request.Create path)) is taken follows = call-seated text seat (request.Create path) is
+playable-line text (Call seat (request.Write path pieces)) is taken follows = call-seated text seat (request.Write path pieces) is
+playable-line text (Call seat request.Sync) is taken follows = call-seated text seat request.Sync is
 playable-line text (Crash pick) is taken follows = tt
 playable-line text kind.Mount is taken follows = tt
 playable-line text Tree is taken follows = tt

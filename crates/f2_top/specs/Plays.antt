@@ -10,13 +10,15 @@ use Rattle.f2_model.specs.declared.replies.Reply.TheVariants as reply
 use Rattle.f2_model.specs.Tree.{Rows}
 use Rattle.f2_model.specs.State.{State, initial}
 use Rattle.f2_model.specs.Step as machine
-use Rattle.f2_model.specs.Step.{Mount, AlreadyMounted, Crashed}
+use Rattle.f2_model.specs.declared.events.Event.TheVariants as events
+use Rattle.f2_model.specs.Step.{calm}
+use Rattle.f2_model.specs.declared.events.Event.TheVariants.{Mount}
+use Rattle.f2_model.specs.declared.events.Answer.TheVariants.{AlreadyMounted, Crashed}
 use Rattle.f2_model.specs.Run.{Happening, Happened}
 use Rattle.f2_disk.specs.Contents.{Contents}
 use Rattle.f2_image.specs.Meanings.{IsSafe}
-use Rattle.f2_laid.specs.Laid.{root_alone}
 use Rattle.f2_flat.specs.Flat.{limits_of}
-use Rattle.f2_core.specs.Seen.{live_where_up}
+use Rattle.f2_core.specs.Seen.{live_where_up, new_image}
 use Rattle.f2_core.specs.Events.{IsCall, IsMount, IsShort}
 use Rattle.f2_script.specs.declared.script.Line.{Line}
 use Rattle.f2_script.specs.declared.script.Line.TheVariants.{Mkfs, Call, Crash, Tree}
@@ -40,7 +42,7 @@ tree_shown (Some tree) = tree_spelling tree
 pub record PlaysCall (limits : Limits) (state : State) (seat : ℕ) (request : Request) (part : Part) : Type 0 where
   pub told : Reply
   pub not_memory : told ≢ reply.Memory
-  pub happened : Happened limits state part.events part.after
+  pub happened : Happened limits calm state part.events part.after
   pub call : IsCall seat request told part.events
   pub text : part.text ≡ reply_spelling told ++ 10 ∷ []
 
@@ -52,13 +54,13 @@ pub record PlaysTree (state : State) (part : Part) : Type 0 where
 
 -- the volume was mounted, or it was open already, and so was printed
 pub data PlaysMount (limits : Limits) (state : State) (part : Part) : Type 0 where
-  found : (rows : ℕ) → Happened limits state part.events part.after → IsMount rows part.events → part.text ≡ found_spelling rows ++ 10 ∷ [] → PlaysMount limits state part
-  already : Happened limits state part.events part.after → IsShort Mount AlreadyMounted part.events → part.text ≡ mounted_spelling ++ 10 ∷ [] → PlaysMount limits state part
+  found : (rows : ℕ) → Happened limits calm state part.events part.after → IsMount rows part.events → part.text ≡ found_spelling rows ++ 10 ∷ [] → PlaysMount limits state part
+  already : Happened limits calm state part.events part.after → IsShort Mount AlreadyMounted part.events → part.text ≡ mounted_spelling ++ 10 ∷ [] → PlaysMount limits state part
 
 -- power was lost
 pub record PlaysCrash (limits : Limits) (state : State) (part : Part) : Type 0 where
-  pub happened : Happened limits state part.events part.after
-  pub once : IsShort machine.Crash Crashed part.events
+  pub happened : Happened limits calm state part.events part.after
+  pub once : IsShort events.Crash Crashed part.events
   pub text : part.text ≡ reply_spelling reply.Done ++ 10 ∷ []
 
 -- what one line comes to from a state; `mkfs` begins a script, and stands nowhere else, and no other line
@@ -94,7 +96,7 @@ pub record PlaysImage (extent : Extent) (lines : List Line) (text : List ℕ) (a
   pub start : State
   pub parts : List Part
   pub found : IsMount 0 mounted
-  pub happened : Happened (limits_of extent) (initial root_alone []) mounted start
+  pub happened : Happened (limits_of extent) calm (initial new_image) mounted start
   pub played : PlaysLines (limits_of extent) start lines parts after
   pub printed : text ≡ mkfs_text extent ++ text_of parts
 

@@ -8,12 +8,13 @@ use Rattle.f2_layout.specs.declared.geometry.Limit.{Limit}
 use Rattle.f2_model.specs.declared.bounds.Limits.{Limits}
 use Rattle.f2_model.specs.State.{State, initial}
 use Rattle.f2_model.specs.Run.{Happening, Happened}
-use Rattle.f2_model.specs.Step.{Event, Answer}
-use Rattle.f2_laid.specs.Laid.{root_alone}
+use Rattle.f2_model.specs.Step.{calm}
+use Rattle.f2_model.specs.declared.events.Event.{Event}
+use Rattle.f2_model.specs.declared.events.Event.TheVariants.{Begin}
+use Rattle.f2_model.specs.declared.events.Answer.{Answer}
 use Rattle.f2_flat.specs.Flat.{limits_of}
-use Rattle.f2_core.specs.declared.events.Event.TheVariants.{Begin}
 use Rattle.f2_core.specs.Events.{ComesTo, IsMount, IsServed}
-use Rattle.f2_core.specs.Seen.{Seen, IsIn}
+use Rattle.f2_core.specs.Seen.{Seen, IsIn, new_image}
 use Rattle.f2_script.specs.declared.script.Line.{Line}
 use Rattle.f2_script.specs.declared.script.Line.TheVariants.{Mkfs, Call, Crash, Tree}
 use Rattle.f2_script.specs.declared.script.Line.TheVariants as kind
@@ -88,7 +89,7 @@ pub record IsMounted {D : Type 0} (extent : Extent) (told : Option Contents) (co
   pub mounted : List Happening
   pub start : State
   pub found : IsMount 0 mounted
-  pub happened : Happened (limits_of extent) (initial root_alone []) mounted start
+  pub happened : Happened (limits_of extent) calm (initial new_image) mounted start
   pub sizes : core.geometry ≡ extent
   pub at : IsAt told core start
 

@@ -4,11 +4,11 @@ ghost use Rattle.std.specs.List.{AllByRecursion};
 ghost use Rattle.std.specs.Vec.Iter.{into_iter_items};
 ghost use Rattle.std.specs.Io.KnownBytes.{Appends};
 ghost use Rattle.f2_disk.specs.Faults.{Rose};
-ghost use Rattle.f2_core.specs.Events.{IsMade, IsServed, answer_of, event_of};
+ghost use Rattle.f2_core.specs.Events.{IsMade, IsServed};
 ghost use Rattle.f2_layout.specs.Refusal.{geometry_of};
 ghost use Rattle.f2_model.specs.State.{State};
 ghost use Rattle.f2_flat.specs.Flat.{limits_of};
-ghost use Rattle.f2_core.specs.declared.events.Event.TheVariants as event;
+ghost use Rattle.f2_model.specs.declared.events.Event.TheVariants as event;
 ghost use Rattle.f2_script.specs.declared.script.Line.TheVariants as line;
 ghost use Rattle.f2_script.specs.Replies.{reply_spelling};
 ghost use Rattle.f2_top.specs.Plays.{mkfs_text as text_of_mkfs, PlaysScript};
@@ -17,10 +17,10 @@ ghost use Rattle.f2_top.specs.Runs.{IsPlayable, IsPlayableScript, IsCalmMeter, S
 
 use crate::output::put;
 use crate::status::Status;
-use f2_core::{Answer, Core, Event, making_writes};
+use f2_core::{Core, making_writes};
 use f2_disk::{Bench, Sink};
 use f2_layout::{BadGeometry, Geometry};
-use f2_model::{Begun, Reply, Request};
+use f2_model::{Answer, Begun, Event, Reply, Request};
 use f2_script::{Line, Lines, found_text, mounted_text, reply_text, tree_text};
 use itoa::Buffer;
 use std::alloc::{AllocError, Global};
@@ -58,7 +58,7 @@ fn step<B: Bench>(core: &mut Core<B>, event: Event) -> Result<Answer, AllocError
     requires served { IsServed event }
     requires calm { IsCalmMeter (B.meter core.old.disk) }
     ensures comes { IfOk result (λ answer. CountsFaults (B.meter core.old.disk)
-        → Comes (B.contents core.old.disk) (B.contents core.new.disk) core.old core.new (event_of event) (answer_of answer)) }
+        → Comes (B.contents core.old.disk) (B.contents core.new.disk) core.old core.new event answer) }
     ensures calm { StaysCalm (B.meter core.old.disk) (B.meter core.new.disk) }
     ensures geometry { core.new.geometry ≡ core.old.geometry }
 {
@@ -79,7 +79,7 @@ fn play_call<B: Bench>(
     ensures calm { StaysCalm (B.meter core.old.disk) (B.meter core.new.disk) }
     ensures geometry { core.new.geometry ≡ core.old.geometry }
 {
-    let Answer::Begun(Begun::Replied(reply)) = step(core, Event::Begin { seat, request })? else {
+    let Answer::Began(Begun::Replied(reply)) = step(core, Event::Begin { seat, request })? else {
         return Err(AllocError);
     };
     match reply {
@@ -97,7 +97,7 @@ fn play_mount<B: Bench>(alloc: Global, core: &mut Core<B>) -> Result<Vec<u8>, Al
 {
     match step(core, Event::Mount)? {
         Answer::Found(rows) => ended(found_text(alloc, rows)?),
-        Answer::Mounted => ended(Vec::from_slice(alloc, mounted_text())?),
+        Answer::AlreadyMounted => ended(Vec::from_slice(alloc, mounted_text())?),
         _ => Err(AllocError),
     }
 }

@@ -1,4 +1,5 @@
-use Rattle.f2_model.specs.Step.{Mount, Found}
+use Rattle.f2_model.specs.declared.events.Event.TheVariants.{Mount}
+use Rattle.f2_model.specs.declared.events.Answer.TheVariants.{Found}
 use Rattle.f2_top.specs.Runs.{Comes}
 use Rattle.f2_top.proofs.CoreLemmas.{counts-on}
 use Rattle.f2_top.proofs.MountLemmas.{IsMounted-of}
