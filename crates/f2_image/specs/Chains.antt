@@ -1,4 +1,18 @@
 -- The node log of an image and the marks in it (find_fsync_dnodes and do_recover_data of recovery.c).
+--
+-- The cases of recovery.c, and what is made of them here:
+-- - A block of another version (is_recoverable_dnode) isn't of the log: the log ends before it. So it does at the next address 0.
+-- - A next address that no block of the log can have: the kernel ends there, here the image is refused.
+-- - A log that doesn't end, which is a loop: refused, there and here.
+-- - A marked inode of a file that the base has brings its size and pages. Its name and its parent aren't looked at: they are the base's.
+-- - A marked inode of a file that the base hasn't brings its name and parent too where it has the dentry mark. Without that mark the
+--   kernel passes over it, here the image is refused. Where the file is marked again, its name is that of its last mark.
+-- - An unmarked inode: not taken; only a marked one tells a size.
+-- - A direct node, whatever its mark: taken where a marked inode of its file stands after it. The last one up to a mark has the mark's
+--   addresses, else the base's does. After a file's last marked inode nothing of it is taken (fsync_inode_entry.blkaddr).
+-- - A marked directory: the kernel takes it, here the image is refused.
+-- - Indirect nodes: not taken. A mark's direct nodes are found by their offsets, so they aren't needed.
+-- - Attributes, inline data, quotas, orphans and compression aren't part of this format.
 use Rattle.std.specs.Prelude.{◌≡◌, ℕ, zero, suc, ◌+◌, ◌<◌, ◌==◌, Bool, ◌&&◌, if◌then◌else◌, List, [], ◌∷◌, length, take, filter, slice_index_or, Option, Some, None}
 use Rattle.std.specs.List.{AllZip, range_with_len}
 use Rattle.std.specs.FinMap as map

@@ -82,12 +82,12 @@ pub data IsBadNat (image : Image) (point : Checkpoint) (nid : ℕ) : Type 0 wher
   other : (place : ℕ) (block : List ℕ) (own : ℕ) → IsTaken image point place block → footer_nid block ≡ nid → IsNode image point (footer_ino block) (footer_offset block) own → own ≢ nid → IsBadNat image point nid
 
 -- an inode that is none of ours: its mode, the length of its name, or its size
-abbrev pub IsOdd : List ℕ → Type 0
-IsOdd block = (inode_kind block ≡ None) ⊎ (NAME_BYTES < (inode_of block).name_length) ⊎ (SIZE_LIMIT < (inode_of block).size)
+abbrev pub IsForeign : List ℕ → Type 0
+IsForeign block = (inode_kind block ≡ None) ⊎ (NAME_BYTES < (inode_of block).name_length) ⊎ (SIZE_LIMIT < (inode_of block).size)
 
 pub data IsBadInode (image : Image) (point : Checkpoint) (at : ℕ) : Type 0 where
-  in_base : HasTable point → (ino : ℕ) (block : List ℕ) → IsReached image point ino → node image point ino ≡ Some block → node_address image point ino ≡ at → IsOdd block → IsBadInode image point at
-  in_log : (place : ℕ) (block : List ℕ) → IsMarkedAt image point place block → (slice_index_or (chain image point) place no_block).at ≡ at → IsOdd block → IsBadInode image point at
+  in_base : HasTable point → (ino : ℕ) (block : List ℕ) → IsReached image point ino → node image point ino ≡ Some block → node_address image point ino ≡ at → IsForeign block → IsBadInode image point at
+  in_log : (place : ℕ) (block : List ℕ) → IsMarkedAt image point place block → (slice_index_or (chain image point) place no_block).at ≡ at → IsForeign block → IsBadInode image point at
 
 -- a block of a directory has a wrong name in it
 pub record HasDentryFault (image : Image) (point : Checkpoint) (at : ℕ) : Type 0 where
@@ -143,9 +143,9 @@ pub record HasNoParent (image : Image) (point : Checkpoint) (ino : ℕ) : Type 0
   pub none : ¬ (IsDirectoryOf image point parent)
 
 -- the type of a dentry as a kind
-abbrev pub kind_of_type : Kind → ℕ
-kind_of_type Regular = REGULAR_TYPE
-kind_of_type Directory = DIRECTORY_TYPE
+abbrev pub type_of_kind : Kind → ℕ
+type_of_kind Regular = REGULAR_TYPE
+type_of_kind Directory = DIRECTORY_TYPE
 
 -- an ino of the base stands that many names below the root
 pub data IsBelow (image : Image) (point : Checkpoint) : ℕ → ℕ → Type 0 where
@@ -163,7 +163,7 @@ pub data IsBadTree (image : Image) (point : Checkpoint) (ino : ℕ) : Type 0 whe
   twice : (directory page slot other more place : ℕ) (a b : Dentry) → IsReached image point directory → IsReached image point other → HasDentryAt image point directory page slot a → HasDentryAt image point other more place b
       → (directory ≢ other) ⊎ (page ≢ more) ⊎ (slot ≢ place) → a.ino ≡ ino → b.ino ≡ ino → IsBadTree image point ino
   other_kind : (directory : ℕ) (dentry : Dentry) (kind : Kind) (inode : List ℕ) → IsReached image point directory → HasDentry image point directory dentry → dentry.ino ≡ ino
-      → IsInode image point ino kind inode → kind_of_type kind ≢ dentry.type → IsBadTree image point ino
+      → IsInode image point ino kind inode → type_of_kind kind ≢ dentry.type → IsBadTree image point ino
   same_name : (directory page slot more place : ℕ) (a b : Dentry) → IsReached image point directory → HasDentryAt image point directory page slot a → HasDentryAt image point directory more place b
       → (page ≢ more) ⊎ (slot ≢ place) → a.name ≡ b.name → a.ino ≡ ino → IsBadTree image point ino
   bad_name : (directory : ℕ) (dentry : Dentry) → IsReached image point directory → HasDentry image point directory dentry → is_good_name dentry.name ≡ false → dentry.ino ≡ ino → IsBadTree image point ino

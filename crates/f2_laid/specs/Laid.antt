@@ -24,7 +24,7 @@ use Rattle.f2_image.specs.Packs.{Side, A, B}
 use Rattle.f2_image.specs.Packs.{Checkpoint, IsCheckpoint, tail_address}
 use Rattle.f2_image.specs.Nodes.{place_of_nid, block_there}
 use Rattle.f2_image.specs.Bases.{inode_kind}
-use Rattle.f2_image.specs.Faults.{kind_of_type}
+use Rattle.f2_image.specs.Faults.{type_of_kind}
 use Rattle.f2_pack.specs.declared.packs.Side as pack
 use Rattle.f2_pack.specs.declared.packs.Side.TheVariants as pack_side
 use Rattle.f2_laid.specs.declared.places.Place.{Place}
@@ -97,7 +97,7 @@ pub record IsBound (tree : Rows) (directory : ℕ) (dentry : Dentry) : Type 0 wh
   pub below : dentry.ino ≢ ROOT
   pub parent : row.parent ≡ directory
   pub named : row.name ≡ dentry.name
-  pub typed : dentry.type ≡ kind_of_type row.kind
+  pub typed : dentry.type ≡ type_of_kind row.kind
 
 -- the dentries of a directory of a tree, in the order of their names' bytes
 pub record AreDentries (tree : Rows) (directory : ℕ) (dentries : List Dentry) : Type 0 where

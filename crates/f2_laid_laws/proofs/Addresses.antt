@@ -11,7 +11,7 @@ use Rattle.f2_model.specs.declared.rows.Kind.TheVariants.{Directory}
 use Rattle.f2_dentry_block.specs.Packed.{packed_blocks}
 use Rattle.f2_image.specs.Reached.{IsNode, IsPage}
 use Rattle.f2_image.specs.Faults as faults
-use Rattle.f2_image.specs.Faults.{IsOdd, IsBadInode, HasDentryFault, IsOutOfZone, IsShared}
+use Rattle.f2_image.specs.Faults.{IsForeign, IsBadInode, HasDentryFault, IsOutOfZone, IsShared}
 use Rattle.f2_image.specs.Images.{Image, block_at}
 use Rattle.f2_image.specs.Packs.{Checkpoint}
 use Rattle.f2_image.specs.Nodes.{node, node_address}
@@ -28,14 +28,14 @@ use Rattle.f2_laid_laws.proofs.Nodes.{own_node, own_page}
 
 module _ (image : Image) (point : Checkpoint) (tree : Rows) (stored : Stored) (is : IsStored image point tree stored) where
   -- the inodes
-  not_odd : (ino : ℕ) (block : List ℕ) → IsReached image point ino → node image point ino ≡ Some block → IsOdd block → ⊥
+  not_odd : (ino : ℕ) (block : List ℕ) → IsReached image point ino → node image point ino ≡ Some block → IsForeign block → ⊥
   not_odd ino block reach there bad =
       let row = in_tree image point tree stored is ino reach in
       let at = home_of image point tree stored is ino row.0 row.1 in
       let same : inode_block image point tree stored ino row.0 at ≡ block = same_some _ block (sym (node_is image point tree stored ino row.0 at) ∙ there) in
       by_part row.0 at same bad
     where
-      by_part : (row : Row) (at : IsHome image point tree stored ino row) → inode_block image point tree stored ino row at ≡ block → IsOdd block → ⊥
+      by_part : (row : Row) (at : IsHome image point tree stored ino row) → inode_block image point tree stored ino row at ≡ block → IsForeign block → ⊥
       by_part row at same (inl none) = none-some row.kind (sym none ∙ ap inode_kind (sym same) ∙ at.inode.kind)
       by_part row at same (inr (inl long)) =
           let few = at.inode.name_length in

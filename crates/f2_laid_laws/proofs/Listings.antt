@@ -31,7 +31,7 @@ use Rattle.f2_image.specs.Packs.{Checkpoint}
 use Rattle.f2_image.specs.Nodes.{block_there}
 use Rattle.f2_image.specs.Bases.{IsInode, IsDirectoryBlock, HasDentryAt}
 use Rattle.f2_image.specs.Reached.{AllDiffer}
-use Rattle.f2_image.specs.Faults.{kind_of_type}
+use Rattle.f2_image.specs.Faults.{type_of_kind}
 use Rattle.f2_laid.specs.Laid.{page_at, page_in, IsStorable, IsBound, AreDentries, HoldsContent, file, directory as of_directory}
 use Rattle.f2_laid.specs.declared.stored.Stored.{Stored}
 use Rattle.f2_laid_laws.proofs.Members.{IsIn, in_map, from_map, in_flat_map, in_filter, in_any, from_any, of_all, within_list}
@@ -94,7 +94,7 @@ name_fits name good =
     let both = and_parts (nat_le 1 (length name)) _ sizes.0 in
     record { some = leb-true 1 (length name) both.0; most = leb-true (length name) 255 both.1 }
 
-type_fits : (kind : Kind) (type : ℕ) → type ≡ kind_of_type kind → (type ≡ REGULAR_TYPE) ⊎ (type ≡ DIRECTORY_TYPE)
+type_fits : (kind : Kind) (type : ℕ) → type ≡ type_of_kind kind → (type ≡ REGULAR_TYPE) ⊎ (type ≡ DIRECTORY_TYPE)
 type_fits Regular type is = inl is
 type_fits Directory type is = inr is
 

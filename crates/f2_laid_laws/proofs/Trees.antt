@@ -12,7 +12,7 @@ use Rattle.f2_model.specs.declared.rows.Kind.{Kind}
 use Rattle.f2_model.specs.declared.rows.Kind.TheVariants.{Regular, Directory}
 use Rattle.f2_image.specs.Reached.{IsBasePage}
 use Rattle.f2_image.specs.Faults as faults
-use Rattle.f2_image.specs.Faults.{kind_of_type, IsBelow, IsPastSize, whole, partly, IsBadTree}
+use Rattle.f2_image.specs.Faults.{type_of_kind, IsBelow, IsPastSize, whole, partly, IsBadTree}
 use Rattle.f2_image.specs.Images.{Image, block_at}
 use Rattle.f2_image.specs.Packs.{Checkpoint}
 use Rattle.f2_image.specs.Nodes.{block_there}
@@ -65,12 +65,12 @@ module _ (image : Image) (point : Checkpoint) (tree : Rows) (stored : Stored) (i
 
   -- the type of a dentry is that of its row
   right_type : (ino directory page slot : ℕ) (dentry : Dentry) (kind : Kind) (inode : List ℕ) → IsReached image point directory → HasDentryAt image point directory page slot dentry → dentry.ino ≡ ino → IsInode image point ino kind inode
-      → kind_of_type kind ≢ dentry.type → ⊥
+      → type_of_kind kind ≢ dentry.type → ⊥
   right_type ino directory page slot dentry kind inode reach has is_ino is_inode bad =
       let to = bound_to directory page slot dentry reach has in
       let there : map.get tree ino ≡ Some to.row = ap (map.get tree) (sym is_ino) ∙ to.there in
       let same = (inode_is image point tree stored ino to.row (home_of image point tree stored is ino to.row there) kind inode is_inode).1 in
-      bad (ap kind_of_type same ∙ sym to.typed)
+      bad (ap type_of_kind same ∙ sym to.typed)
 
   -- a page of a file within its size, and zeros past it
   within_size : (ino page at : ℕ) (inode : List ℕ) → IsInode image point ino Regular inode → IsBasePage image point ino page at → IsPastSize image (inode_of inode).size page at → ⊥

@@ -22,8 +22,8 @@ use Rattle.f2_model.specs.declared.replies.Plan.TheVariants as plan
 use Rattle.f2_model.specs.declared.replies.Begun.{Begun}
 use Rattle.f2_model.specs.declared.replies.Begun.TheVariants as begun
 use Rattle.f2_plain_state.specs.Seen.{Seen, after_turn}
-use Rattle.f2_plain.specs.declared.choices.Extent.TheVariants.{Fewest, UpTo}
-use Rattle.f2_plain.specs.declared.choices.Extent.{Extent}
+use Rattle.f2_plain.specs.declared.choices.MarksKept.TheVariants.{Fewest, UpTo}
+use Rattle.f2_plain.specs.declared.choices.MarksKept.{MarksKept}
 use Rattle.f2_plain.specs.declared.choices.Choices.{Choices}
 use Rattle.f2_plain.specs.Choosing.{place_left, found_by, Chooses, blocks_after, ComesTo}
 use Rattle.f2_plain.specs.Going.{ClosesTo}
@@ -104,7 +104,7 @@ comes_pending choices old new tree shut told there after =
     (inr (on_some old.state.pending _ (λ one. found old.state (pending_with old.state tree) 1 ≡ found old.state (pending_with old.state one) 1) tree there refl)) (found_pending choices old.state tree told there) after
 
 -- the marks that are left to a mount are first ones, down to the last acknowledged one
-left_found : (extent : Extent) (state : State) → state.acknowledged ≤ length state.marks → FindsMarks state (found state (base_up_to state (place_left extent state)) 0)
+left_found : (kept : MarksKept) (state : State) → state.acknowledged ≤ length state.marks → FindsMarks state (found state (base_up_to state (place_left kept state)) 0)
 left_found Fewest state there = (state.acknowledged, omega arith, there, refl)
 left_found (UpTo place) state there = (max state.acknowledged (min place (length state.marks)), omega arith, omega (arith, there), refl)
 

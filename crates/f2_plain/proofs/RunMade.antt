@@ -19,7 +19,7 @@ use Rattle.f2_model.specs.declared.events.Answer.TheVariants.{Stepped}
 use Rattle.f2_model.specs.Step.{Turn, calm, MOUNT_SEAT, StepGo, StepCheck, Writes, Flushes, found, turn_with, completes, unchanged, step_failed}
 use Rattle.f2_plain_calls.specs.Given.{MOST_SIZE, IsFitting}
 use Rattle.f2_plain_state.specs.Seen.{Seen, told, after_turn}
-use Rattle.f2_plain.specs.declared.choices.Extent.TheVariants.{Fewest}
+use Rattle.f2_plain.specs.declared.choices.MarksKept.TheVariants.{Fewest}
 use Rattle.f2_plain.specs.declared.choices.Choices.{Choices}
 use Rattle.f2_plain.specs.Choosing.{AsLeft, blocks_after, ComesTo}
 use Rattle.f2_plain.specs.Sound.{IsFittingMark, IsSound, IsPlain, first_meaning, made_by}

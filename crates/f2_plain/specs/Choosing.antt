@@ -14,12 +14,12 @@ use Rattle.f2_model.specs.declared.replies.Plan.TheVariants.{Roll}
 use Rattle.f2_laws.specs.Choice.{IsFaultless}
 use Rattle.f2_laws.specs.Room.{IsLeastFreeIno}
 use Rattle.f2_plain_state.specs.Seen.{Seen, after_turn}
-use Rattle.f2_plain.specs.declared.choices.Extent.{Extent}
-use Rattle.f2_plain.specs.declared.choices.Extent.TheVariants.{Fewest, UpTo}
+use Rattle.f2_plain.specs.declared.choices.MarksKept.{MarksKept}
+use Rattle.f2_plain.specs.declared.choices.MarksKept.TheVariants.{Fewest, UpTo}
 use Rattle.f2_plain.specs.declared.choices.Choices.{Choices}
 
 -- the place up to which marks remain
-abbrev pub place_left : Extent → State → ℕ
+abbrev pub place_left : MarksKept → State → ℕ
 place_left Fewest state = state.acknowledged
 place_left (UpTo place) state = max state.acknowledged (min place (length state.marks))
 

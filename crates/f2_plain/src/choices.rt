@@ -2,7 +2,7 @@
 
 /// How many marks a mount takes of those that may remain.
 #[derive(Clone, Copy, Debug, PartialEq, Eq)]
-pub enum Extent {
+pub enum MarksKept {
     /// Those up to the last acknowledged one.
     Fewest,
     /// Those up to a place, as far as they are there, and all that are acknowledged.
@@ -13,7 +13,7 @@ pub enum Extent {
 #[derive(Clone, Copy, Debug, PartialEq, Eq)]
 pub struct Choices {
     /// For a mount: how many marks it takes.
-    pub marks: Extent,
+    pub marks: MarksKept,
     /// For a mount: whether the tree of a checkpoint counts whose tail was written.
     pub pending: bool,
     /// For an event that begins a checkpoint: how many blocks this writes before its tail.

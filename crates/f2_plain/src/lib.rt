@@ -15,7 +15,7 @@ mod mounts;
 mod ticks;
 mod written;
 
-pub use choices::{Choices, Extent};
+pub use choices::{Choices, MarksKept};
 pub use f2_plain_calls::outcome;
 pub use f2_plain_reasons::fallback;
 pub use machine::Machine;

@@ -8,7 +8,7 @@ ghost use Rattle.f2_plain.specs.Written.{written_place};
 ghost use Rattle.f2_plain_calls.specs.Given.{MOST_SIZE};
 
 use crate::begins::begin;
-use crate::choices::{Choices, Extent};
+use crate::choices::{Choices, MarksKept};
 use crate::goes::{draws_next, go};
 use crate::mounts::{mount, unmount, upgrade};
 use crate::ticks::tick;
@@ -51,7 +51,7 @@ impl Model for Machine {
 
 /// What a machine is made with: its mount finds no mark, and writes nothing before its tail.
 const MAKING: Choices = Choices {
-    marks: Extent::Fewest,
+    marks: MarksKept::Fewest,
     pending: false,
     blocks: 0,
 };

@@ -11,7 +11,7 @@ ghost use Rattle.f2_plain_calls.specs.Given.{IsKeyed};
 ghost use Rattle.f2_plain_state.specs.Parts.{mark_of};
 ghost use Rattle.f2_plain_state.specs.Seen.{after_turn};
 
-use crate::choices::{Choices, Extent};
+use crate::choices::{Choices, MarksKept};
 use f2_model::{Answer, Begun, Format, Mode, Plan, Reply, Tree};
 use f2_plain_calls::{copy_row, copy_tree};
 use f2_plain_state::{Mark, Plain};
@@ -31,14 +31,14 @@ fn rolled(alloc: Global, base: &Tree, marks: &[Mark]) -> Result<Tree, AllocError
 }
 
 /// The place up to which marks remain.
-fn place_left(plain: &Plain, extent: Extent) -> usize
+fn place_left(plain: &Plain, kept: MarksKept) -> usize
     requires { IsSound plain.now }
-    ensures place { result ≡ place_left extent plain.now.state }
+    ensures place { result ≡ place_left kept plain.now.state }
     ensures there { result ≤ length plain.now.state.marks }
 {
-    match extent {
-        Extent::Fewest => plain.acknowledged(),
-        Extent::UpTo(place) => plain.acknowledged().max(place.min(plain.marks().len())),
+    match kept {
+        MarksKept::Fewest => plain.acknowledged(),
+        MarksKept::UpTo(place) => plain.acknowledged().max(place.min(plain.marks().len())),
     }
 }
 

@@ -16,7 +16,7 @@ use Rattle.f2_dentry_block.specs.declared.dents.Dent.{Dent}
 use Rattle.f2_dir.proofs.Listed.{dent_of}
 use Rattle.f2_format.specs.Geometry.{Extent}
 use Rattle.f2_held.proofs.RowLists.{value_is_one, one_is_value, name_of_row, row_of_name}
-use Rattle.f2_image.specs.Faults.{kind_of_type}
+use Rattle.f2_image.specs.Faults.{type_of_kind}
 use Rattle.f2_laid.specs.Laid.{IsStorable, AreDentries, IsBound}
 use Rattle.f2_model.proofs.RisingLemmas.{rising-is}
 use Rattle.f2_model.specs.Names.{is_good_name}
@@ -33,7 +33,7 @@ names_listed : (es : List (List ℕ × (ℕ × Kind))) → names_of (map_list de
 names_listed [] = refl
 names_listed (e ∷ es) = ap (λ names. e.0 ∷ names) (names_listed es)
 
-same_type : (kind : Kind) → type_of kind ≡ kind_of_type kind
+same_type : (kind : Kind) → type_of kind ≡ type_of_kind kind
 same_type Regular = refl
 same_type Directory = refl
 

@@ -21,7 +21,7 @@ use Rattle.f2_format.specs.Geometry.{Extent, IsGeometry}
 use Rattle.f2_format.specs.Offsets.{inode_pages}
 use Rattle.f2_format.specs.Packing.{blocks_of_names}
 use Rattle.f2_image.specs.Images.{Image}
-use Rattle.f2_image.specs.Faults.{kind_of_type}
+use Rattle.f2_image.specs.Faults.{type_of_kind}
 use Rattle.f2_laws.proofs.Passed.{both_true}
 use Rattle.f2_laid.specs.Laid.{IsStorable, IsBound, AreDentries, page_in}
 use Rattle.f2_laid.specs.declared.places.Place.{Place}
@@ -51,7 +51,7 @@ good_length name h =
     record { some = leb-true 1 (length name) c.0; most = leb-true (length name) 255 c.1 }
 
 -- a kind has one of two types
-known_type : (kind : Kind) (type : ℕ) → type ≡ kind_of_type kind → (type ≡ REGULAR_TYPE) ⊎ (type ≡ DIRECTORY_TYPE)
+known_type : (kind : Kind) (type : ℕ) → type ≡ type_of_kind kind → (type ≡ REGULAR_TYPE) ⊎ (type ≡ DIRECTORY_TYPE)
 known_type Regular type e = inl e
 known_type Directory type e = inr e
 

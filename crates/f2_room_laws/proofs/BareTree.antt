@@ -21,7 +21,7 @@ use Rattle.f2_laws.proofs.Maps.{get_put, get_put-other}
 use Rattle.f2_laws.proofs.Walks.{some_same, some_none}
 use Rattle.f2_laws.proofs.Places.{same_or_other}
 use Rattle.f2_held.proofs.FirstPages.{used-is}
-use Rattle.f2_room_laws.specs.SoundTrees.{IsNumber, BareTreeIsSound}
+use Rattle.f2_room_laws.specs.ProperTrees.{IsNumber, BareTreeIsProper}
 
 abbrev no_rows : Rows
 no_rows = map.empty
@@ -100,8 +100,8 @@ bare_data =
     ∙ sum_by-cons (data_of_row (root_row ∷ [])) root_row []
     ∙ ap (λ blocks. blocks + 0) root_blocks
 
-pub bare_sound : BareTreeIsSound
-bare_sound limits room = record {
+pub bare_proper : BareTreeIsProper
+bare_proper limits room = record {
   good = bare_good limits.size;
   numbers = λ ino row there. subst (IsNumber limits) (sym (only_root ino row there).0) (omega arith, room.numbers);
   nodes = let nodes = room.nodes in omega (arith, bare_nodes);

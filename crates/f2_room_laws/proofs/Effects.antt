@@ -1,4 +1,4 @@
--- What a call that takes effect leaves of the rows, and that the tree stays sound.
+-- What a call that takes effect leaves of the rows, and that the tree stays proper.
 use Rattle.std.proofs.Common.{◌≡◌, ◌≢◌, ◌⊎◌, inl, inr, ℕ, ◌≤◌, Bool, true, false, List, [], ◌∷◌, nat_lt, refl, sym, ap, subst, ◌∙◌}
 use Rattle.std.specs.Prelude.{Some, None, Result, Ok, Err, if◌then◌else◌}
 use Rattle.std.specs.Bool.{then_some}
@@ -25,7 +25,7 @@ use Rattle.f2_laws.proofs.Walks.{some_same, some_none, walk_ends}
 use Rattle.f2_laws.proofs.Passed.{Passed, passed, none_first, walk_ok, directory_ok, kinds_differ}
 use Rattle.f2_laws.proofs.Places.{same_or_other}
 use Rattle.f2_laws.proofs.Calls.{effect_good}
-use Rattle.f2_room_laws.specs.SoundTrees.{IsNumber, IsSoundTree}
+use Rattle.f2_room_laws.specs.ProperTrees.{IsNumber, IsProperTree}
 use Rattle.f2_laws.specs.Flights.{Flights, IsFrozen}
 use Rattle.f2_laws.proofs.Seats.{not_frozen}
 
@@ -153,15 +153,15 @@ fits_data limits tree h = by_test (nat_lt limits.data_blocks (data_of_tree tree)
     by_test true e h = absurd (some_none h)
     by_test false e h = ltb-false limits.data_blocks (data_of_tree tree) e
 
--- a call that isn't refused leaves a sound tree
-pub effect_sound : (limits : Limits) (live : Rows) (flights : Flights) (request : Request) (ino : ℕ) → IsSoundTree limits live → refusal limits live request ≡ None → (adds_row request ≡ true → map.get live ino ≡ None) → (adds_row request ≡ true → IsNumber limits ino) → space_refusal limits (effect live request ino) ≡ None → Keeps live (effect live request ino) flights (adds_row request) ino → IsSoundTree limits (effect live request ino)
-effect_sound limits live flights request ino sound none new number space keeps = record {
-  good = effect_good limits live sound.good request ino (λ adds. new adds) (passed limits live request none);
+-- a call that isn't refused leaves a proper tree
+pub effect_proper : (limits : Limits) (live : Rows) (flights : Flights) (request : Request) (ino : ℕ) → IsProperTree limits live → refusal limits live request ≡ None → (adds_row request ≡ true → map.get live ino ≡ None) → (adds_row request ≡ true → IsNumber limits ino) → space_refusal limits (effect live request ino) ≡ None → Keeps live (effect live request ino) flights (adds_row request) ino → IsProperTree limits (effect live request ino)
+effect_proper limits live flights request ino proper none new number space keeps = record {
+  good = effect_good limits live proper.good request ino (λ adds. new adds) (passed limits live request none);
   numbers = λ at row there. by_row at row (keeps.rows at row there);
   nodes = fits_nodes limits (effect live request ino) space;
   data_blocks = fits_data limits (effect live request ino) space;
 }
   where
     by_row : (at : ℕ) (row : Row) → ((old : Row) × (map.get live at ≡ Some old) × (row.kind ≡ old.kind)) ⊎ ((adds_row request ≡ true) × (at ≡ ino)) → IsNumber limits at
-    by_row at row (inl old) = sound.numbers at old.0 old.1
+    by_row at row (inl old) = proper.numbers at old.0 old.1
     by_row at row (inr same) = subst (IsNumber limits) (sym same.1) (number same.0)

@@ -1,4 +1,4 @@
--- Each event leaves a sound state sound.
+-- Each event leaves a proper state proper.
 use Rattle.std.proofs.Common.{◌≡◌, ◌⊎◌, inl, inr, ℕ, Bool, true, false, not, nat_le, List, [], ◌∷◌, length, refl, sym, ap, subst, ◌∙◌, arith, true≢false}
 use Rattle.std.specs.Prelude.{Option, Some, None, Result, Ok, Err, MatchOption, is_some, ◌+◌, max}
 use Rattle.std.specs.Bool.{MatchBool}
@@ -34,15 +34,15 @@ use Rattle.f2_model.specs.declared.histories.CallKind.TheVariants as kind
 use Rattle.f2_laws.proofs.Walks.{walk_ends}
 use Rattle.f2_laws.proofs.Passed.{passed}
 use Rattle.f2_laws.proofs.NewRows.{same_space}
-use Rattle.f2_room_laws.specs.SoundTrees.{IsNumber, IsSoundTree}
+use Rattle.f2_room_laws.specs.ProperTrees.{IsNumber, IsProperTree}
 use Rattle.f2_laws.specs.Flights.{IsFrozen}
-use Rattle.f2_room_laws.specs.SoundStates.{IsSoundState, EventsKeepStatesSound}
+use Rattle.f2_room_laws.specs.ProperStates.{IsProperState, EventsKeepStatesProper}
 use Rattle.f2_laws.proofs.Seats.{nobody, no_check, unbarred}
 use Rattle.f2_laws.proofs.Dirtied.{dirty_only}
-use Rattle.f2_room_laws.proofs.Effects.{Keeps, effect_keeps, effect_sound}
+use Rattle.f2_room_laws.proofs.Effects.{Keeps, effect_keeps, effect_proper}
 use Rattle.f2_laws.proofs.Flying.{Idle}
 use Rattle.f2_room_laws.proofs.Modes.{where_up}
-use Rattle.f2_room_laws.proofs.States.{Rolls, sound_aside, sound_told, sound_closed, sound_crashed, sound_left, sound_acknowledged, sound_checking, sound_pending, sound_logged, sound_drawn, sound_changed, sound_begun, sound_part, sound_marked, sound_completed, sound_found}
+use Rattle.f2_room_laws.proofs.States.{Rolls, proper_aside, proper_told, proper_closed, proper_crashed, proper_left, proper_acknowledged, proper_checking, proper_pending, proper_logged, proper_drawn, proper_changed, proper_begun, proper_part, proper_marked, proper_completed, proper_found}
 
 -- a test, and an option, that both ways lead on from
 by_bool : {P Q G : Type 0} (b : Bool) → (b ≡ true → P → G) → (b ≡ false → Q → G) → MatchBool b P Q → G
@@ -57,33 +57,33 @@ shown : (b : Bool) → not b ≡ false → b ≡ true
 shown true e = refl
 shown false e = absurd (true≢false e)
 
-module _ (limits : Limits) (faults : Faults) (state : State) (turn : Turn) (h : IsSoundState limits state) where
+module _ (limits : Limits) (faults : Faults) (state : State) (turn : Turn) (h : IsProperState limits state) where
   abbrev Stays : Type 0
-  Stays = IsSoundState limits turn.after
+  Stays = IsProperState limits turn.after
 
-  is : (so : Turn) → IsSoundState limits so.after → turn ≡ so → Stays
-  is so holds e = subst (λ (t : Turn). IsSoundState limits t.after) (sym e) holds
+  is : (so : Turn) → IsProperState limits so.after → turn ≡ so → Stays
+  is so holds e = subst (λ (t : Turn). IsProperState limits t.after) (sym e) holds
 
   -- an event that changes nothing
   still : (told : Answer) (entries : List Entry) (choices : List ℕ) → turn ≡ Step.turn_with told entries choices state → Stays
-  still told entries choices e = is (Step.turn_with told entries choices state) (sound_told limits state h (state.entries + length entries)) e
+  still told entries choices e = is (Step.turn_with told entries choices state) (proper_told limits state h (state.entries + length entries)) e
 
-  closes : (seat : ℕ) (call : CallKind) (failed : Answer) (so : Turn) → IsSoundState limits so.after → turn ≡ Step.closed_by_fault faults seat call failed so → Stays
-  closes seat call failed so holds e = is (Step.closed_by_fault faults seat call failed so) (sound_closed limits so.after holds seat (so.after.entries + 1)) e
+  closes : (seat : ℕ) (call : CallKind) (failed : Answer) (so : Turn) → IsProperState limits so.after → turn ≡ Step.closed_by_fault faults seat call failed so → Stays
+  closes seat call failed so holds e = is (Step.closed_by_fault faults seat call failed so) (proper_closed limits so.after holds seat (so.after.entries + 1)) e
 
-  writes : (seat : ℕ) (failed : Answer) (so : Turn) → IsSoundState limits so.after → Writes faults seat failed so turn → Stays
+  writes : (seat : ℕ) (failed : Answer) (so : Turn) → IsProperState limits so.after → Writes faults seat failed so turn → Stays
   writes seat failed so holds (inl e) = is so holds e
   writes seat failed so holds (inr e) = closes seat kind.Write failed so holds e.1
 
-  flushes : (seat : ℕ) (failed : Answer) (so : Turn) → IsSoundState limits so.after → Flushes faults state seat failed so turn → Stays
+  flushes : (seat : ℕ) (failed : Answer) (so : Turn) → IsProperState limits so.after → Flushes faults state seat failed so turn → Stays
   flushes seat failed so holds (inl e) = is so holds e
-  flushes seat failed so holds (inr e) = closes seat kind.Flush failed (Step.unchanged state failed) (sound_told limits state h (state.entries + 0)) e.1
+  flushes seat failed so holds (inr e) = closes seat kind.Flush failed (Step.unchanged state failed) (proper_told limits state h (state.entries + 0)) e.1
 
   -- a call of one event takes effect
-  called_sound : (request : Request) (ino entries : ℕ) → IsSoundTree limits (effect state.live request ino) → Keeps state.live (effect state.live request ino) state.flights (adds_row request) ino → (adds_row request ≡ true → map.get state.base ino ≡ None) → (adds_row request ≡ true → set.contains state.logged ino ≡ false) → IsSoundState limits (record (called state request ino) { entries = entries })
-  called_sound request ino entries sound keeps no_base out =
-      dirty_only (λ (s : State). IsSoundState limits (record s { live = effect state.live request ino; entries = entries })) state
-      (λ pages nodes moved shrunk. sound_changed limits state h (effect state.live request ino) (adds_row request) ino pages nodes moved shrunk entries sound keeps no_base out)
+  called_proper : (request : Request) (ino entries : ℕ) → IsProperTree limits (effect state.live request ino) → Keeps state.live (effect state.live request ino) state.flights (adds_row request) ino → (adds_row request ≡ true → map.get state.base ino ≡ None) → (adds_row request ≡ true → set.contains state.logged ino ≡ false) → IsProperState limits (record (called state request ino) { entries = entries })
+  called_proper request ino entries proper keeps no_base out =
+      dirty_only (λ (s : State). IsProperState limits (record s { live = effect state.live request ino; entries = entries })) state
+      (λ pages nodes moved shrunk. proper_changed limits state h (effect state.live request ino) (adds_row request) ino pages nodes moved shrunk entries proper keeps no_base out)
       (effect state.live request ino) request
 
   -- what the tests before have told of a call of one event
@@ -107,9 +107,9 @@ module _ (limits : Limits) (faults : Faults) (state : State) (turn : Turn) (h : 
     effective : (ino : ℕ) (choices : List ℕ) → (adds_row request ≡ true → IsFreeIno limits state ino) → space_refusal limits (effect state.live request ino) ≡ None → turn ≡ Step.told_at_once state seat request (answer state.live request) choices (called state request ino) → Stays
     effective ino choices free space e =
         let kept = keeps ino (λ adds. (free adds).no_row) in
-        let sound = effect_sound limits state.live state.flights request ino h.live none (λ adds. (free adds).no_row) (λ adds. number ino (free adds)) space kept in
+        let proper = effect_proper limits state.live state.flights request ino h.live none (λ adds. (free adds).no_row) (λ adds. number ino (free adds)) space kept in
         is (Step.told_at_once state seat request (answer state.live request) choices (called state request ino))
-        (called_sound request ino ((called state request ino).entries + 1) sound kept (λ adds. (free adds).no_base_row) (λ adds. (free adds).not_logged)) e
+        (called_proper request ino ((called state request ino).entries + 1) proper kept (λ adds. (free adds).no_base_row) (λ adds. (free adds).not_logged)) e
       where
         number : (ino : ℕ) → IsFreeIno limits state ino → IsNumber limits ino
         number ino free = (let above = free.above in omega arith, free.below)
@@ -131,14 +131,14 @@ module _ (limits : Limits) (faults : Faults) (state : State) (turn : Turn) (h : 
   begins_check : (seat : ℕ) (request : Request) (plan : Plan) → BeginsCheck state seat request plan turn → Stays
   begins_check seat request plan begun =
       by_option (Step.least_in_flight state)
-      (λ none e. is _ (sound_checking limits state h seat plan state.format (state.entries + 2) (nobody state none)) e)
+      (λ none e. is _ (proper_checking limits state h seat plan state.format (state.entries + 2) (nobody state none)) e)
       (λ by _ e. still _ _ _ e) begun
 
   begins_fsync : (seat : ℕ) (path : List (List ℕ)) → is_up state.mode ≡ true → Step.checking_seat state ≡ None → (end : Result Row Reply) → walk state.live path ≡ end → BeginsFsync limits state seat (Fsync path) end turn → Stays
   begins_fsync seat path up none (Err refused) leads e = still _ _ _ e
   begins_fsync seat path up none (Ok row) leads begun =
       by_option (fallback limits state row)
-      (λ rolls e. is _ (sound_begun limits state h seat fresh_progress row (state.entries + 1) up (walk_ends limits.size state.live h.live.good path row leads).there rolls (no_check state none)) e)
+      (λ rolls e. is _ (proper_begun limits state h seat fresh_progress row (state.entries + 1) up (walk_ends limits.size state.live h.live.good path row leads).there rolls (no_check state none)) e)
       (λ reason _. begins_check seat (Fsync path) (plan.Cp reason)) begun
 
   serves : (seat : ℕ) (request : Request) → is_up state.mode ≡ true → Step.checking_seat state ≡ None → refusal limits state.live request ≡ None → freezing state request ≡ None → Serves limits faults state seat request turn → Stays
@@ -169,35 +169,35 @@ module _ (limits : Limits) (faults : Faults) (state : State) (turn : Turn) (h : 
   part : (seat ino : ℕ) (progress : Progress) → map.get state.flights seat ≡ Some (InFsync ino progress) → is_shut state.mode ≡ false → (at : Part) → StepPart faults state seat ino progress at turn → Stays
   part seat ino progress there open_now InPages stepped =
       by_option (Step.least_of state.dirty_pages ino)
-      (λ _. flushes seat Step.step_failed _ (sound_part limits state h seat ino progress there (in_nodes None) (state.entries + 1)))
-      (λ page _. writes seat Step.step_failed _ (sound_aside limits state h (set.remove state.dirty_pages (ino, page)) state.dirty_nodes state.moved state.shrunk state.node_writes (state.data_writes + 1) (state.entries + 1))) stepped
+      (λ _. flushes seat Step.step_failed _ (proper_part limits state h seat ino progress there (in_nodes None) (state.entries + 1)))
+      (λ page _. writes seat Step.step_failed _ (proper_aside limits state h (set.remove state.dirty_pages (ino, page)) state.dirty_nodes state.moved state.shrunk state.node_writes (state.data_writes + 1) (state.entries + 1))) stepped
   part seat ino progress there open_now InNodes stepped =
       by_option (Step.least_of state.dirty_nodes ino)
       (λ _. by_option (map.get state.live ino) (λ _ never. absurd never)
-      (λ row row_there. is (Step.mark_drawn state seat ino row) (sound_marked limits state h seat ino progress there row row_there open_now (marked_at (length state.marks) state.node_writes (Some (Step.next_slot state DrawnMark))) (state.node_writes + 1) (state.entries + 1))))
-      (λ offset _. is (Step.node_drawn state seat ino offset) (sound_drawn limits state h seat ino progress there offset (state.entries + 1))) stepped
+      (λ row row_there. is (Step.mark_drawn state seat ino row) (proper_marked limits state h seat ino progress there row row_there open_now (marked_at (length state.marks) state.node_writes (Some (Step.next_slot state DrawnMark))) (state.node_writes + 1) (state.entries + 1))))
+      (λ offset _. is (Step.node_drawn state seat ino offset) (proper_drawn limits state h seat ino progress there offset (state.entries + 1))) stepped
   part seat ino progress there open_now Marked stepped =
       by_option (Step.gap_below state progress.position)
-      (λ _. flushes seat Step.step_failed (Step.acknowledges state seat ino progress) (sound_acknowledged limits state h seat (max state.acknowledged (progress.place + 1)) (state.entries + 1) (omega arith)))
+      (λ _. flushes seat Step.step_failed (Step.acknowledges state seat ino progress) (proper_acknowledged limits state h seat (max state.acknowledged (progress.place + 1)) (state.entries + 1) (omega arith)))
       (λ position _ e. still _ _ _ e) stepped
 
   fsync : (seat ino : ℕ) (progress : Progress) → map.get state.flights seat ≡ Some (InFsync ino progress) → is_shut state.mode ≡ false → StepFsync faults state seat ino progress turn → Stays
   fsync seat ino progress there open_now stepped =
       by_option progress.slot (λ _. part seat ino progress there open_now progress.part)
-      (λ slot _. writes seat Step.step_failed _ (sound_part limits state h seat ino progress there (record progress { slot = None }) (state.entries + 0))) stepped
+      (λ slot _. writes seat Step.step_failed _ (proper_part limits state h seat ino progress there (record progress { slot = None }) (state.entries + 0))) stepped
 
   check : (seat : ℕ) (plan : Plan) → map.get state.flights seat ≡ Some (InCheck plan) → StepCheck faults state seat plan turn → Stays
   check seat plan there stepped =
       by_option state.pending (λ _. by_pending)
-      (λ tree _. flushes seat Step.step_failed (Step.completes state seat plan) (sound_completed limits state h seat plan (Step.is_unmount state seat) (state.entries + length (Step.completes state seat plan).entries) there)) stepped
+      (λ tree _. flushes seat Step.step_failed (Step.completes state seat plan) (proper_completed limits state h seat plan (Step.is_unmount state seat) (state.entries + length (Step.completes state seat plan).entries) there)) stepped
     where
       by_block : Writes faults seat Step.step_failed (Step.unchanged state (Stepped step.Block)) turn ⊎ Flushes faults state seat Step.step_failed (Step.unchanged state (Stepped step.Block)) turn → Stays
-      by_block (inl e) = writes seat Step.step_failed _ (sound_told limits state h (state.entries + 0)) e
-      by_block (inr e) = flushes seat Step.step_failed _ (sound_told limits state h (state.entries + 0)) e
+      by_block (inl e) = writes seat Step.step_failed _ (proper_told limits state h (state.entries + 0)) e
+      by_block (inr e) = flushes seat Step.step_failed _ (proper_told limits state h (state.entries + 0)) e
 
       by_pending : Step.WritesBlock faults state seat turn ⊎ Writes faults seat Step.step_failed (Step.turn_with (Stepped step.Tail) (entry.CpTail seat ∷ []) [] (record state { pending = Some state.live })) turn → Stays
       by_pending (inl e) = by_block e
-      by_pending (inr e) = writes seat Step.step_failed _ (sound_pending limits state h (state.entries + 1)) e
+      by_pending (inr e) = writes seat Step.step_failed _ (proper_pending limits state h (state.entries + 1)) e
 
   flight : (seat : ℕ) (one : Flight) → map.get state.flights seat ≡ Some one → is_shut state.mode ≡ false → StepFlight faults state seat one turn → Stays
   flight seat (InFsync ino progress) there open_now stepped = fsync seat ino progress there open_now stepped
@@ -206,18 +206,18 @@ module _ (limits : Limits) (faults : Faults) (state : State) (turn : Turn) (h : 
   go : (seat : ℕ) → Step.StepGo faults state seat turn → Stays
   go seat stepped =
       by_option (map.get state.flights seat) (λ _ e. still _ _ _ e)
-      (λ one there. by_bool (is_shut state.mode) (λ _ e. is _ (sound_left limits state h seat (state.entries + 0)) e) (λ open_now. flight seat one there open_now)) stepped
+      (λ one there. by_bool (is_shut state.mode) (λ _ e. is _ (proper_left limits state h seat (state.entries + 0)) e) (λ open_now. flight seat one there open_now)) stepped
 
   ticks_page : (page : ℕ × ℕ) → Step.TicksPage limits faults state page turn → Stays
   ticks_page page stepped =
       by_bool (Step.has_data_room limits state)
-      (λ _. writes Step.NO_SEAT _ _ (sound_aside limits state h (set.remove state.dirty_pages (page.0, page.1)) state.dirty_nodes state.moved state.shrunk state.node_writes (state.data_writes + 1) (state.entries + 1)))
+      (λ _. writes Step.NO_SEAT _ _ (proper_aside limits state h (set.remove state.dirty_pages (page.0, page.1)) state.dirty_nodes state.moved state.shrunk state.node_writes (state.data_writes + 1) (state.entries + 1)))
       (λ _ e. still _ _ _ e) stepped
 
   ticks_node : (node : ℕ × ℕ) → Step.TicksNode limits faults state node turn → Stays
   ticks_node node stepped =
       by_bool (Step.has_node_room limits state)
-      (λ _. writes Step.NO_SEAT _ _ (sound_logged limits state h node.0 (set.remove state.dirty_nodes (node.0, node.1)) (state.node_writes + 1) (state.entries + 1)))
+      (λ _. writes Step.NO_SEAT _ _ (proper_logged limits state h node.0 (set.remove state.dirty_nodes (node.0, node.1)) (state.node_writes + 1) (state.entries + 1)))
       (λ _ e. still _ _ _ e) stepped
 
   ticks : Step.StepTick limits faults state turn → Stays
@@ -234,13 +234,13 @@ module _ (limits : Limits) (faults : Faults) (state : State) (turn : Turn) (h : 
   mount stepped = by_bool (not (is_shut state.mode)) (λ _ e. still _ _ _ e) (λ _. mounting) stepped
     where
       finds_pending : FindsPending state turn → Stays
-      finds_pending found = by_option state.pending (λ _ never. absurd never) (λ tree is_there e. is (Step.found state (pending_with state tree) 1) (sound_found limits state (pending_with state tree) 1 (h.pending tree is_there)) e) found
+      finds_pending found = by_option state.pending (λ _ never. absurd never) (λ tree is_there e. is (Step.found state (pending_with state tree) 1) (proper_found limits state (pending_with state tree) 1 (h.pending tree is_there)) e) found
 
       fails : (seat : ℕ) (call : CallKind) (refused : MountRefusal) → turn ≡ Step.closed_by_fault faults seat call (NotMounted refused) (Step.unchanged state (NotMounted refused)) → Stays
-      fails seat call refused e = closes seat call (NotMounted refused) (Step.unchanged state (NotMounted refused)) (sound_told limits state h (state.entries + 0)) e
+      fails seat call refused e = closes seat call (NotMounted refused) (Step.unchanged state (NotMounted refused)) (proper_told limits state h (state.entries + 0)) e
 
       mounting : FindsMarks state turn ⊎ FindsPending state turn ⊎ Step.MountFails faults state ReadFailed kind.Read turn ⊎ Step.MountFails faults state WriteFailed kind.Flush turn ⊎ (turn ≡ Step.unchanged state (NotMounted BadImage)) ⊎ (turn ≡ Step.unchanged state (NotMounted NoMemory)) → Stays
-      mounting (inl found) = is (Step.found state (base_up_to state found.0) 0) (sound_found limits state (base_up_to state found.0) 0 (h.remains found.0 found.1 found.2)) found.3
+      mounting (inl found) = is (Step.found state (base_up_to state found.0) 0) (proper_found limits state (base_up_to state found.0) 0 (h.remains found.0 found.1 found.2)) found.3
       mounting (inr (inl found)) = finds_pending found
       mounting (inr (inr (inl failed))) = fails Step.NO_SEAT kind.Read ReadFailed failed.1
       mounting (inr (inr (inr (inl failed)))) = fails Step.NO_SEAT kind.Flush WriteFailed failed.1
@@ -251,20 +251,20 @@ module _ (limits : Limits) (faults : Faults) (state : State) (turn : Turn) (h : 
   close format stepped =
       by_bool (not (is_up state.mode)) (λ _ e. still _ _ _ e)
       (λ _. by_option (Step.least_in_flight state)
-      (λ none e. is _ (sound_checking limits state h Step.MOUNT_SEAT plan.Sync format (state.entries + 1) (nobody state none)) e)
+      (λ none e. is _ (proper_checking limits state h Step.MOUNT_SEAT plan.Sync format (state.entries + 1) (nobody state none)) e)
       (λ by _ e. still _ _ _ e)) stepped
 
-pub events_keep_states_sound : EventsKeepStatesSound
-events_keep_states_sound limits faults state (Begin seat request) turn step h = by_memory step.1
+pub events_keep_states_proper : EventsKeepStatesProper
+events_keep_states_proper limits faults state (Begin seat request) turn step h = by_memory step.1
   where
-    by_memory : StepBegin limits faults state seat request turn ⊎ (turn ≡ Step.unchanged state (Step.replied reply.Memory)) → IsSoundState limits turn.after
+    by_memory : StepBegin limits faults state seat request turn ⊎ (turn ≡ Step.unchanged state (Step.replied reply.Memory)) → IsProperState limits turn.after
     by_memory (inl stepped) = begin limits faults state turn h seat request stepped
     by_memory (inr e) = still limits faults state turn h _ _ _ e
-events_keep_states_sound limits faults state (Go seat) turn stepped h = go limits faults state turn h seat stepped
-events_keep_states_sound limits faults state Tick turn stepped h = ticks limits faults state turn h stepped
-events_keep_states_sound limits faults state Mount turn stepped h = mount limits faults state turn h stepped
-events_keep_states_sound limits faults state Unmount turn (inl stepped) h = close limits faults state turn h state.format stepped
-events_keep_states_sound limits faults state Unmount turn (inr e) h = still limits faults state turn h _ _ _ e
-events_keep_states_sound limits faults state Upgrade turn (inl stepped) h = close limits faults state turn h Two stepped
-events_keep_states_sound limits faults state Upgrade turn (inr e) h = still limits faults state turn h _ _ _ e
-events_keep_states_sound limits faults state Crash turn e h = is limits faults state turn h (Step.crashed state) (sound_crashed limits state h (state.entries + 1)) e
+events_keep_states_proper limits faults state (Go seat) turn stepped h = go limits faults state turn h seat stepped
+events_keep_states_proper limits faults state Tick turn stepped h = ticks limits faults state turn h stepped
+events_keep_states_proper limits faults state Mount turn stepped h = mount limits faults state turn h stepped
+events_keep_states_proper limits faults state Unmount turn (inl stepped) h = close limits faults state turn h state.format stepped
+events_keep_states_proper limits faults state Unmount turn (inr e) h = still limits faults state turn h _ _ _ e
+events_keep_states_proper limits faults state Upgrade turn (inl stepped) h = close limits faults state turn h Two stepped
+events_keep_states_proper limits faults state Upgrade turn (inr e) h = still limits faults state turn h _ _ _ e
+events_keep_states_proper limits faults state Crash turn e h = is limits faults state turn h (Step.crashed state) (proper_crashed limits state h (state.entries + 1)) e

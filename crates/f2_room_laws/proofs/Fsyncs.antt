@@ -20,12 +20,12 @@ use Rattle.f2_laws.proofs.Names.{stands_true}
 use Rattle.f2_laws.proofs.Places.{same_or_other}
 use Rattle.f2_held.specs.Recovered.{IsOneOf, rows_of}
 use Rattle.f2_held.proofs.RowLists.{one_of-left, one_of-right, value_is_one, rolled_row}
-use Rattle.f2_room_laws.specs.SoundTrees.{IsSoundTree}
+use Rattle.f2_room_laws.specs.ProperTrees.{IsProperTree}
 use Rattle.f2_room_laws.specs.Marking.{RowsHaveRoom}
 use Rattle.f2_laws.specs.Flights.{Flights, IsFrozen}
 use Rattle.f2_laws.proofs.Listed.{Has, has-left, has-right, mapped_has}
 use Rattle.f2_laws.proofs.Flying.{frozen_more}
-use Rattle.f2_room_laws.specs.SoundStates.{IsReady, IsRolling}
+use Rattle.f2_room_laws.specs.ProperStates.{IsReady, IsRolling}
 use Rattle.f2_room_laws.proofs.Members.{has_row, frozen_has, none_passes}
 use Rattle.f2_room_laws.proofs.Rolling.{no_root}
 
@@ -68,7 +68,7 @@ some_there : (o : Option Row) → is_some o ≡ true → (row : Row) × (o ≡ S
 some_there None e = absurd (true≢false (sym e))
 some_there (Some row) e = (row, refl)
 
-module _ (limits : Limits) (state : State) (sound : IsSoundTree limits state.live) (h : IsRolling limits state.live state.base state.marks state.flights state.logged) (row : Row) (there : map.get state.live row.ino ≡ Some row) (none : fallback limits state row ≡ None) where
+module _ (limits : Limits) (state : State) (proper : IsProperTree limits state.live) (h : IsRolling limits state.live state.base state.marks state.flights state.logged) (row : Row) (there : map.get state.live row.ino ≡ Some row) (none : fallback limits state row ≡ None) where
   tests : RollsForward limits state row
   tests = rolls limits state row none
 
@@ -82,7 +82,7 @@ module _ (limits : Limits) (state : State) (sound : IsSoundTree limits state.liv
   row_regular = regular row.kind tests.file
 
   row_root : row.ino ≢ ROOT
-  row_root = no_root limits.size state.live sound.good row.ino row there row_regular
+  row_root = no_root limits.size state.live proper.good row.ino row there row_regular
 
   -- the test of a row that may have the name
   abbrev takes_name : Row → Bool

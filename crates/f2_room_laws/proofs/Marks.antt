@@ -1,4 +1,4 @@
--- A file's row comes into a good tree, and one mark more into a sound one.
+-- A file's row comes into a good tree, and one mark more into a proper one.
 use Rattle.std.proofs.Common.{◌≡◌, ◌≢◌, ◌⊎◌, inl, inr, ℕ, suc, ◌≤◌, List, [], ◌∷◌, ◌++◌, map as map_list, refl, sym, ap, subst, ◌∙◌, arith}
 use Rattle.std.specs.Prelude.{Some}
 use Rattle.std.specs.FinMap as map
@@ -12,7 +12,7 @@ use Rattle.f2_laws.proofs.Places.{same_or_other, put_or_other, depth_kept, Fits,
 use Rattle.f2_laws.proofs.RolledRows.{rolled-append}
 use Rattle.f2_held.specs.Recovered.{IsOneOf}
 use Rattle.f2_held.proofs.Recovering.{recovered_trees_fit}
-use Rattle.f2_room_laws.specs.SoundTrees.{IsNumber}
+use Rattle.f2_room_laws.specs.ProperTrees.{IsNumber}
 use Rattle.f2_room_laws.specs.Marking.{MayComeIn, RowsComeInWell, MarksComeInWell}
 
 module _ (most : ℕ) (tree : Rows) (row : Row) (good : IsGoodTree most tree) (may : MayComeIn most tree row) where
@@ -71,10 +71,10 @@ pub rolled_more : (base : Rows) (marks : List Mark) (mark : Mark) → rolled bas
 rolled_more base marks mark = rolled-append base marks (mark ∷ [])
 
 pub marks_come_in : MarksComeInWell
-marks_come_in limits base marks mark rows sound regular ino number may room =
+marks_come_in limits base marks mark rows proper regular ino number may room =
     let e = rolled_more base marks mark in
     let good : IsGoodTree limits.size (rolled base (marks ++ mark ∷ [])) =
-    subst (IsGoodTree limits.size) (ap (λ i. map.insert (rolled base marks) i mark.row) ino ∙ sym e) (comes_in limits.size (rolled base marks) mark.row sound.good may) in
+    subst (IsGoodTree limits.size) (ap (λ i. map.insert (rolled base marks) i mark.row) ino ∙ sym e) (comes_in limits.size (rolled base marks) mark.row proper.good may) in
     let fit = recovered_trees_fit limits.size base (marks ++ mark ∷ []) rows good (regular_more marks mark regular may.regular) room.found in
     record {
       good = good;
@@ -85,4 +85,4 @@ marks_come_in limits base marks mark rows sound regular ino number may room =
   where
     by_ino : (at : ℕ) (row : Row) → map.get (map.insert (rolled base marks) mark.ino mark.row) at ≡ Some row → (at ≡ mark.ino) ⊎ (at ≢ mark.ino) → IsNumber limits at
     by_ino at row there (inl same) = subst (IsNumber limits) (sym same) number
-    by_ino at row there (inr other) = sound.numbers at row (sym (get_put-other (rolled base marks) mark.ino mark.row at other) ∙ there)
+    by_ino at row there (inr other) = proper.numbers at row (sym (get_put-other (rolled base marks) mark.ino mark.row at other) ∙ there)

@@ -3,7 +3,7 @@ use Rattle.std.proofs.Common.{◌≡◌, true, false, refl, sym, true≢false}
 use Rattle.f2_model.specs.declared.modes.Mode.{Mode}
 use Rattle.f2_model.specs.declared.modes.Mode.TheVariants.{Shut, Mounting, Up}
 use Rattle.f2_model.specs.Step.{is_up, is_shut}
-use Rattle.f2_room_laws.specs.SoundStates.{InMode}
+use Rattle.f2_room_laws.specs.ProperStates.{InMode}
 
 -- what a mode asks is told again
 pub in_mode : (mode : Mode) (idle idle_after rolling rolling_after : Type 0) → (idle → idle_after) → (rolling → rolling_after) → InMode mode idle rolling → InMode mode idle_after rolling_after

@@ -17,10 +17,10 @@ use Rattle.f2_laws.proofs.Passed.{kinds_differ}
 use Rattle.f2_laws.proofs.Places.{same_or_other}
 use Rattle.f2_held.specs.Recovered.{IsOneOf}
 use Rattle.f2_held.proofs.RowLists.{one_of-left, one_of-right}
-use Rattle.f2_room_laws.specs.SoundTrees.{IsSoundTree}
+use Rattle.f2_room_laws.specs.ProperTrees.{IsProperTree}
 use Rattle.f2_room_laws.specs.Marking.{MayComeIn, RowsHaveRoom}
 use Rattle.f2_laws.specs.Flights.{Flights, IsFrozen}
-use Rattle.f2_room_laws.specs.SoundStates.{IsReady, FilesHaveRoom, IsRolling}
+use Rattle.f2_room_laws.specs.ProperStates.{IsReady, FilesHaveRoom, IsRolling}
 use Rattle.f2_room_laws.proofs.Members.{one_of-either}
 use Rattle.f2_room_laws.proofs.Marks.{regular_more, rolled_more, marks_come_in}
 use Rattle.f2_room_laws.proofs.Effects.{Keeps}
@@ -79,7 +79,7 @@ module _ (limits : Limits) (live base : Rows) (marks : List Mark) (flights : Fli
           absurd (some_none (sym before.1 ∙ ap (λ i. map.get base i) new.1 ∙ no_base new.0))
 
   -- a file in fsync is marked
-  module _ (sound : IsSoundTree limits live) (ino : ℕ) (row : Row) (frozen : IsFrozen flights ino) (there : map.get live ino ≡ Some row) where
+  module _ (proper : IsProperTree limits live) (ino : ℕ) (row : Row) (frozen : IsFrozen flights ino) (there : map.get live ino ≡ Some row) where
     abbrev mark : Mark
     mark = record { ino = ino; row = row }
 
@@ -93,25 +93,25 @@ module _ (limits : Limits) (live base : Rows) (marks : List Mark) (flights : Fli
     row_is = some_same (sym ready.there ∙ there)
 
     keyed : row.ino ≡ ino
-    keyed = sound.good.keyed ino row there
+    keyed = proper.good.keyed ino row there
 
     regular : row.kind ≡ Regular
     regular = subst (λ (r : Row). r.kind ≡ Regular) row_is ready.regular
 
     may : MayComeIn limits.size tree row
     may =
-        let not_root = no_root limits.size live sound.good ino row there regular in
+        let not_root = no_root limits.size live proper.good ino row there regular in
         let before = ready.parent in
         let now = h.kept row.parent before.0 (ap (λ (r : Row). map.get base r.parent) (sym row_is) ∙ before.1) in
-        let up = sound.good.parents ino row there in
+        let up = proper.good.parents ino row there in
         record {
           regular = regular;
           not_root = λ root. not_root (sym keyed ∙ root);
           file = λ old found. sym (h.kinds ino row old there (ap (λ i. map.get tree i) (sym keyed) ∙ found)) ∙ regular;
           up = (now.0, now.1, sym (h.kinds row.parent up.0 now.0 up.1 now.1) ∙ up.2);
-          name = sound.good.names ino row there not_root;
+          name = proper.good.names ino row there not_root;
           free = λ at other found other_root parent name. ready.free at other found other_root (parent ∙ ap (λ (r : Row). r.parent) (sym row_is)) (name ∙ ap (λ (r : Row). r.name) (sym row_is)) ∙ sym keyed;
-          pages = sound.good.pages ino row there;
+          pages = proper.good.pages ino row there;
         }
 
     -- a row of the marks is one of before or the new one
@@ -155,8 +155,8 @@ module _ (limits : Limits) (live base : Rows) (marks : List Mark) (flights : Fli
     more_there : (at : ℕ) → at ≢ ino → map.get more at ≡ map.get tree at
     more_there at other = ap (λ t. map.get t at) (rolled_more base marks mark) ∙ get_put-other tree ino row at other
 
-    pub whole_more : IsSoundTree limits more
-    whole_more = let space = space_more ino frozen in marks_come_in limits base marks mark space.rows h.whole h.regular keyed (sound.numbers ino row there) may space.room
+    pub whole_more : IsProperTree limits more
+    whole_more = let space = space_more ino frozen in marks_come_in limits base marks mark space.rows h.whole h.regular keyed (proper.numbers ino row there) may space.room
 
     kept_more : (at : ℕ) (before : Row) → map.get base at ≡ Some before → (now : Row) × (map.get more at ≡ Some now)
     kept_more at before found = by_ino (same_or_other at ino)
@@ -201,8 +201,8 @@ module _ (limits : Limits) (live base : Rows) (marks : List Mark) (flights : Fli
         by_ino : (r : IsReady live base tree file) (at : ℕ) (other : Row) → map.get more at ≡ Some other → at ≢ ROOT → other.parent ≡ r.row.parent → other.name ≡ r.row.name → (at ≡ ino) ⊎ (at ≢ ino) → at ≡ file
         by_ino r at other found other_root parent name (inl same) =
             let is : other ≡ row = some_same (sym found ∙ ap (λ i. map.get more i) same ∙ more_here) in
-            let file_root = no_root limits.size live sound.good file r.row r.there r.regular in
-            sound.good.apart at file row r.row (ap (λ i. map.get live i) same ∙ there) r.there other_root file_root (ap (λ (o : Row). o.parent) (sym is) ∙ parent) (ap (λ (o : Row). o.name) (sym is) ∙ name)
+            let file_root = no_root limits.size live proper.good file r.row r.there r.regular in
+            proper.good.apart at file row r.row (ap (λ i. map.get live i) same ∙ there) r.there other_root file_root (ap (λ (o : Row). o.parent) (sym is) ∙ parent) (ap (λ (o : Row). o.name) (sym is) ∙ name)
         by_ino r at other found other_root parent name (inr apart) = r.free at other (sym (more_there at apart) ∙ found) other_root parent name
 
     pub rolling_marked : IsRolling limits live base (marks ++ mark ∷ []) flights (set.insert logged ino)
@@ -217,9 +217,9 @@ module _ (limits : Limits) (live base : Rows) (marks : List Mark) (flights : Fli
     }
 
 -- a checkpoint is done, and no file is in fsync
-pub rolling_based : (limits : Limits) (done : Rows) (flights : Flights) (logged : Inos) → IsSoundTree limits done → ((ino : ℕ) → IsFrozen flights ino → ⊥) → IsRolling limits done done [] flights logged
-rolling_based limits done flights logged sound none = record {
-  whole = sound;
+pub rolling_based : (limits : Limits) (done : Rows) (flights : Flights) (logged : Inos) → IsProperTree limits done → ((ino : ℕ) → IsFrozen flights ino → ⊥) → IsRolling limits done done [] flights logged
+rolling_based limits done flights logged proper none = record {
+  whole = proper;
   regular = λ row never. absurd never;
   kept = λ ino row there. (row, there);
   known = λ ino row there out. (row, there);

@@ -18,15 +18,15 @@ use Rattle.f2_laws.specs.Flights.{IsFrozen}
 use Rattle.f2_laws.proofs.Passed.{passed}
 use Rattle.f2_laws.proofs.Flying.{Idle, after_left, frozen_check, nobody_yet}
 use Rattle.f2_laws.proofs.Cases.{IsServed, Handles, step_handled}
-use Rattle.f2_room_laws.specs.SoundStates.{IsSoundState}
+use Rattle.f2_room_laws.specs.ProperStates.{IsProperState}
 use Rattle.f2_room_laws.specs.Staying.{StaysInFsync, RowsStayInFsync}
 use Rattle.f2_room_laws.proofs.Effects.{effect_keeps}
 use Rattle.f2_room_laws.proofs.Modes.{where_up}
-use Rattle.f2_room_laws.proofs.States.{Rolls, initial_sound}
-use Rattle.f2_room_laws.proofs.Events.{events_keep_states_sound}
-use Rattle.f2_room_laws.proofs.Runs.{runs_sound}
+use Rattle.f2_room_laws.proofs.States.{Rolls, initial_proper}
+use Rattle.f2_room_laws.proofs.Events.{events_keep_states_proper}
+use Rattle.f2_room_laws.proofs.Runs.{runs_proper}
 
-module _ (limits : Limits) (faults : Faults) (state : State) (h : IsSoundState limits state) (seat ino : ℕ) (progress : Progress) (there : map.get state.flights seat ≡ Some (InFsync ino progress)) where
+module _ (limits : Limits) (faults : Faults) (state : State) (h : IsProperState limits state) (seat ino : ℕ) (progress : Progress) (there : map.get state.flights seat ≡ Some (InFsync ino progress)) where
   -- where the seat still has the file in fsync, its row is the same
   abbrev Stays : Turn → Type 0
   Stays turn = (after : Progress) → map.get turn.after.flights seat ≡ Some (InFsync ino after) → map.get turn.after.live ino ≡ map.get state.live ino
@@ -73,14 +73,14 @@ module _ (limits : Limits) (faults : Faults) (state : State) (h : IsSoundState l
     fails = fails;
   }
 
-happened_stays : (limits : Limits) (faults : Faults) (events : List Happening) (state to : State) (seat ino : ℕ) (progress : Progress) → IsSoundState limits state → map.get state.flights seat ≡ Some (InFsync ino progress) → Happened limits faults state events to → StaysInFsync seat ino events → map.get to.live ino ≡ map.get state.live ino
-happened_stays limits faults [] state to seat ino progress sound there h stays = ap (λ (s : State). map.get s.live ino) (sym h.1)
-happened_stays limits faults (one ∷ rest) state to seat ino progress sound there h stays =
+happened_stays : (limits : Limits) (faults : Faults) (events : List Happening) (state to : State) (seat ino : ℕ) (progress : Progress) → IsProperState limits state → map.get state.flights seat ≡ Some (InFsync ino progress) → Happened limits faults state events to → StaysInFsync seat ino events → map.get to.live ino ≡ map.get state.live ino
+happened_stays limits faults [] state to seat ino progress proper there h stays = ap (λ (s : State). map.get s.live ino) (sym h.1)
+happened_stays limits faults (one ∷ rest) state to seat ino progress proper there h stays =
     let next = stays.0 in
-    let after_sound = events_keep_states_sound limits one.faults state one.event one.turn h.2 sound in
-    let first = step_handled limits one.faults state (λ turn. (after : Progress) → map.get turn.after.flights seat ≡ Some (InFsync ino after) → map.get turn.after.live ino ≡ map.get state.live ino) (handles limits one.faults state sound seat ino progress there) one.turn one.event h.2 in
-    happened_stays limits _ rest one.turn.after to seat ino next.0 after_sound next.1 h.3 stays.1 ∙ first next.0 next.1
+    let after_proper = events_keep_states_proper limits one.faults state one.event one.turn h.2 proper in
+    let first = step_handled limits one.faults state (λ turn. (after : Progress) → map.get turn.after.flights seat ≡ Some (InFsync ino after) → map.get turn.after.live ino ≡ map.get state.live ino) (handles limits one.faults state proper seat ino progress there) one.turn one.event h.2 in
+    happened_stays limits _ rest one.turn.after to seat ino next.0 after_proper next.1 h.3 stays.1 ∙ first next.0 next.1
 
 pub rows_stay : RowsStayInFsync
-rows_stay limits faults later meaning entries choices state to events seat ino progress sound run =
-    happened_stays limits later events state to seat ino progress (runs_sound limits faults (initial meaning) entries choices state (initial_sound limits meaning sound) run)
+rows_stay limits faults later meaning entries choices state to events seat ino progress proper run =
+    happened_stays limits later events state to seat ino progress (runs_proper limits faults (initial meaning) entries choices state (initial_proper limits meaning proper) run)

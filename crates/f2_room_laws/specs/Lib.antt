@@ -1,6 +1,6 @@
 -- What recovery may find is good, and fits the image.
-pub mod SoundTrees
+pub mod ProperTrees
 pub mod Marking
-pub mod SoundStates
+pub mod ProperStates
 pub mod Running
 pub mod Staying

@@ -8,7 +8,7 @@ use Rattle.f2_model.specs.declared.bounds.Limits.{Limits}
 use Rattle.f2_model.specs.declared.rows.Row.{Row}
 use Rattle.f2_model.specs.declared.rows.Kind.TheVariants.{Regular, Directory}
 use Rattle.f2_held.specs.Recovered.{IsOneOf, rows_of, most_of}
-use Rattle.f2_room_laws.specs.SoundTrees.{IsNumber, IsSoundTree}
+use Rattle.f2_room_laws.specs.ProperTrees.{IsNumber, IsProperTree}
 
 -- a file's row may be put into a tree: where its ino has a row it is a file's, it stands in a directory of the tree under a good name that no other row has there, and its pages are good
 pub record MayComeIn (most_size : ℕ) (tree : Rows) (row : Row) : Type 0 where
@@ -30,14 +30,14 @@ pub record RowsHaveRoom (limits : Limits) (base : Rows) (marks : List Mark) (row
   pub data_blocks : (most_of base rows).pages ≤ limits.data_blocks
   pub found : (row : Row) → IsOneOf row (rows_of base marks) → IsOneOf row rows
 
--- marks of files rolled over a base are sound with one mark more, where its row may come in and there is room for all the rows
+-- marks of files rolled over a base are proper with one mark more, where its row may come in and there is room for all the rows
 abbrev pub MarksComeInWell : Type 0
 MarksComeInWell =
     (limits : Limits) (base : Rows) (marks : List Mark) (mark : Mark) (rows : List Row) →
-    IsSoundTree limits (rolled base marks) →
+    IsProperTree limits (rolled base marks) →
     ((row : Row) → IsOneOf row (map_list (λ mark. mark.row) marks) → row.kind ≡ Regular) →
     mark.row.ino ≡ mark.ino →
     IsNumber limits mark.ino →
     MayComeIn limits.size (rolled base marks) mark.row →
     RowsHaveRoom limits base (marks ++ mark ∷ []) rows →
-    IsSoundTree limits (rolled base (marks ++ mark ∷ []))
+    IsProperTree limits (rolled base (marks ++ mark ∷ []))

@@ -7,42 +7,42 @@ use Rattle.f2_model.specs.Run.{IsRun}
 use Rattle.f2_model.specs.declared.bounds.Limits.{Limits}
 use Rattle.f2_model.specs.declared.modes.Format.{Format}
 use Rattle.f2_model.specs.declared.histories.Entry.{Entry}
-use Rattle.f2_room_laws.specs.SoundTrees.{IsSoundTree, HasRoomForRoot}
-use Rattle.f2_room_laws.specs.SoundStates.{IsSoundState}
+use Rattle.f2_room_laws.specs.ProperTrees.{IsProperTree, HasRoomForRoot}
+use Rattle.f2_room_laws.specs.ProperStates.{IsProperState}
 
--- every run from a sound state leads to one
-abbrev pub RunsStaySound : Type 0
-RunsStaySound =
+-- every run from a proper state leads to one
+abbrev pub RunsStayProper : Type 0
+RunsStayProper =
     (limits : Limits) (faults : Faults) (from : State) (entries : List Entry) (choices : List ℕ) (state : State) →
-    IsSoundState limits from →
+    IsProperState limits from →
     IsRun limits faults from entries choices state →
-    IsSoundState limits state
+    IsProperState limits state
 
--- a sound state leaves nothing but sound trees
-abbrev pub SoundStatesLeaveSoundTrees : Type 0
-SoundStatesLeaveSoundTrees =
+-- a proper state leaves nothing but proper trees
+abbrev pub ProperStatesLeaveProperTrees : Type 0
+ProperStatesLeaveProperTrees =
     (limits : Limits) (state : State) (meaning : Meaning) →
-    IsSoundState limits state →
+    IsProperState limits state →
     MayRemain state meaning →
-    IsSoundTree limits (rolled meaning.base meaning.marks)
+    IsProperTree limits (rolled meaning.base meaning.marks)
 
 -- what an image that was just made is left as, in a format and a version: the tree of the root alone
 abbrev pub just_made : Format → ℕ → Meaning
 just_made format version = record { base = root_alone; marks = []; format = format; version = version }
 
--- in every run of an image that was just made, each tree that a crash may leave is sound
-abbrev pub WhatMayRemainIsSound : Type 0
-WhatMayRemainIsSound =
+-- in every run of an image that was just made, each tree that a crash may leave is proper
+abbrev pub WhatMayRemainIsProper : Type 0
+WhatMayRemainIsProper =
     (limits : Limits) (faults : Faults) (format : Format) (version : ℕ) (entries : List Entry) (choices : List ℕ) (state : State) (meaning : Meaning) →
     HasRoomForRoot limits →
     IsRun limits faults (initial (just_made format version)) entries choices state →
     MayRemain state meaning →
-    IsSoundTree limits (rolled meaning.base meaning.marks)
+    IsProperTree limits (rolled meaning.base meaning.marks)
 
 -- and so is the tree that calls see
-abbrev pub LiveTreesAreSound : Type 0
-LiveTreesAreSound =
+abbrev pub LiveTreesAreProper : Type 0
+LiveTreesAreProper =
     (limits : Limits) (faults : Faults) (format : Format) (version : ℕ) (entries : List Entry) (choices : List ℕ) (state : State) →
     HasRoomForRoot limits →
     IsRun limits faults (initial (just_made format version)) entries choices state →
-    IsSoundTree limits state.live
+    IsProperTree limits state.live

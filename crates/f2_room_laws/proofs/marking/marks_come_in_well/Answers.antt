@@ -4,5 +4,5 @@ use Rattle.f2_room_laws.proofs.Marks.{rows_come_in, marks_come_in}
 pub returns-clause-good : goal.returns-clause-good
 returns-clause-good c = rows_come_in
 
-pub returns-clause-sound : goal.returns-clause-sound
-returns-clause-sound c = marks_come_in
+pub returns-clause-proper : goal.returns-clause-proper
+returns-clause-proper c = marks_come_in

@@ -12,7 +12,7 @@ abbrev pub IsNumber : Limits → ℕ → Type 0
 IsNumber limits ino = (ROOT ≤ ino) × (ino < limits.nids)
 
 -- a good tree within the limits of an image: each row has such a number, and the nodes and data blocks fit the zones
-pub record IsSoundTree (limits : Limits) (tree : Rows) : Type 0 where
+pub record IsProperTree (limits : Limits) (tree : Rows) : Type 0 where
   pub good : IsGoodTree limits.size tree
   pub numbers : (ino : ℕ) (row : Row) → map.get tree ino ≡ Some row → IsNumber limits ino
   pub nodes : nodes_of_tree tree ≤ limits.nodes
@@ -32,6 +32,6 @@ GeometriesHaveRoomForRoot =
     limits.nids ≡ nid_limit extent →
     HasRoomForRoot limits
 
--- and then the tree of the root alone is sound
-abbrev pub BareTreeIsSound : Type 0
-BareTreeIsSound = (limits : Limits) → HasRoomForRoot limits → IsSoundTree limits root_alone
+-- and then the tree of the root alone is proper
+abbrev pub BareTreeIsProper : Type 0
+BareTreeIsProper = (limits : Limits) → HasRoomForRoot limits → IsProperTree limits root_alone

@@ -1,4 +1,4 @@
--- States from which a crash leaves nothing but sound trees: what every event keeps.
+-- States from which a crash leaves nothing but proper trees: what every event keeps.
 use Rattle.std.specs.Prelude.{◌≡◌, ◌≢◌, ℕ, ◌≤◌, false, List, map as map_list, take, length, Some}
 use Rattle.std.specs.FinMap as map
 use Rattle.std.specs.FinSet as set
@@ -14,7 +14,7 @@ use Rattle.f2_model.specs.declared.rows.Row.{Row}
 use Rattle.f2_model.specs.declared.rows.Kind.TheVariants.{Regular}
 use Rattle.f2_laws.specs.Flights.{Flights, IsFrozen}
 use Rattle.f2_held.specs.Recovered.{IsOneOf}
-use Rattle.f2_room_laws.specs.SoundTrees.{IsSoundTree}
+use Rattle.f2_room_laws.specs.ProperTrees.{IsProperTree}
 use Rattle.f2_room_laws.specs.Marking.{RowsHaveRoom}
 
 -- a file in fsync: its row is a regular file's, the base has its directory, and no other row of a rolled tree has its name there
@@ -33,8 +33,8 @@ pub record FilesHaveRoom (limits : Limits) (live base : Rows) (marks : List Mark
 
 -- what holds of an open volume between two checkpoints
 pub record IsRolling (limits : Limits) (live base : Rows) (marks : List Mark) (flights : Flights) (logged : Inos) : Type 0 where
-  -- the base with all marks is sound, and the marks are files'
-  pub whole : IsSoundTree limits (rolled base marks)
+  -- the base with all marks is proper, and the marks are files'
+  pub whole : IsProperTree limits (rolled base marks)
   pub regular : (row : Row) → IsOneOf row (map_list (λ mark. mark.row) marks) → row.kind ≡ Regular
   -- it has the inos of the base, and else those of the log alone
   pub kept : (ino : ℕ) (row : Row) → map.get base ino ≡ Some row → (now : Row) × (map.get (rolled base marks) ino ≡ Some now)
@@ -51,19 +51,19 @@ InMode Shut found rolling = Unit {0}
 InMode Mounting found rolling = found
 InMode Up found rolling = rolling
 
--- a state of which a crash leaves nothing but sound trees, now and after any event
-pub record IsSoundState (limits : Limits) (state : State) : Type 0 where
-  pub live : IsSoundTree limits state.live
-  pub pending : (tree : Rows) → state.pending ≡ Some tree → IsSoundTree limits tree
-  pub remains : (k : ℕ) → state.acknowledged ≤ k → k ≤ length state.marks → IsSoundTree limits (rolled state.base (take k state.marks))
+-- a state of which a crash leaves nothing but proper trees, now and after any event
+pub record IsProperState (limits : Limits) (state : State) : Type 0 where
+  pub live : IsProperTree limits state.live
+  pub pending : (tree : Rows) → state.pending ≡ Some tree → IsProperTree limits tree
+  pub remains : (k : ℕ) → state.acknowledged ≤ k → k ≤ length state.marks → IsProperTree limits (rolled state.base (take k state.marks))
   -- a checkpoint in flight is alone
   pub alone : (seat other : ℕ) (plan : Plan) (flight : Flight) → map.get state.flights seat ≡ Some (InCheck plan) → map.get state.flights other ≡ Some flight → other ≡ seat
   pub mode : InMode state.mode ((ino : ℕ) → IsFrozen state.flights ino → ⊥) (IsRolling limits state.live state.base state.marks state.flights state.logged)
 
--- a state of which nothing is known but that a mount finds a sound tree is sound
-abbrev pub InitialIsSound : Type 0
-InitialIsSound = (limits : Limits) (meaning : Meaning) → IsSoundTree limits (rolled meaning.base meaning.marks) → IsSoundState limits (initial meaning)
+-- a state of which nothing is known but that a mount finds a proper tree is proper
+abbrev pub InitialIsProper : Type 0
+InitialIsProper = (limits : Limits) (meaning : Meaning) → IsProperTree limits (rolled meaning.base meaning.marks) → IsProperState limits (initial meaning)
 
--- each event leaves a sound state sound
-abbrev pub EventsKeepStatesSound : Type 0
-EventsKeepStatesSound = (limits : Limits) (faults : Faults) (state : State) (event : Event) (turn : Turn) → Step limits faults state event turn → IsSoundState limits state → IsSoundState limits turn.after
+-- each event leaves a proper state proper
+abbrev pub EventsKeepStatesProper : Type 0
+EventsKeepStatesProper = (limits : Limits) (faults : Faults) (state : State) (event : Event) (turn : Turn) → Step limits faults state event turn → IsProperState limits state → IsProperState limits turn.after
