@@ -114,12 +114,7 @@ fn go_check(alloc: Global, plain: &mut Plain, seat: u8, plan: Plan) -> Result<St
 }
 
 /// An fsync waits for an open position below its mark's, or makes its last flush.
-fn go_marked(
-    plain: &mut Plain,
-    seat: u8,
-    ino: u32,
-    progress: Progress,
-) -> Result<Step, AllocError>
+fn go_marked(plain: &mut Plain, seat: u8, ino: u32, progress: Progress) -> Result<Step, AllocError>
     requires flight { map.get plain.old.state.flights seat ≡ Some (InFsync ino (progress_of progress)) }
     requires part { progress.part ≡ Part.Marked }
     requires slot { progress.slot ≡ None }

@@ -5,7 +5,7 @@ ghost use Rattle.f2_core.specs.Events.{IsServed};
 use f2_core::{Core, making_writes};
 use f2_disk::{Bench, Disk, MemBench, MemDisk, MemSink, MemSource};
 use f2_layout::Geometry;
-use f2_model::Request;
+use f2_model::{Event, Request};
 use f2_top::{Status, run_plain};
 use std::alloc::{AllocError, Global};
 use std::test::Fail;
