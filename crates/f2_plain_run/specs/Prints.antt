@@ -6,7 +6,7 @@ use Rattle.f2_layout.specs.declared.geometry.BadGeometry.{BadGeometry}
 use Rattle.f2_script.specs.declared.script.Line.{Line}
 use Rattle.f2_script.specs.declared.script.Line.TheVariants as verb
 use Rattle.f2_script.specs.declared.script.Grammar.TheVariants.{Plain}
-use Rattle.f2_script.specs.Grammar.{IsTooLong, Spells, IsFirstFault, MayStand, runs}
+use Rattle.f2_script.specs.Grammar.{IsTooLong, Spells, IsFirstFault, IsLineHere, runs}
 use Rattle.f2_script.specs.Steps.{made_spelling}
 use Rattle.f2_plain_run.specs.declared.endings.Ending.{Ending}
 use Rattle.f2_plain_run.specs.declared.endings.Ending.TheVariants.{Done, TooLong, Script, Geometry, Memory}
@@ -38,10 +38,14 @@ pub record IsReadAs (bytes : List ℕ) (R : List Line → Type 0) : Type 0 where
   pub spelled : Spells Plain bytes lines
   pub holds : R lines
 
--- each line may stand where it stands, by whether one that runs stands before them
+-- a line that some text spells, and that may stand here, by whether one that runs stands before it
+abbrev pub Stands : Bool → Line → Type 0
+Stands begun line = (text : List ℕ) × IsLineHere Plain begun text line
+
+-- each line is one that may stand where it stands, by whether one that runs stands before them
 abbrev pub AreStanding : Bool → List Line → Type 0
 AreStanding begun [] = Unit {0}
-AreStanding begun (line ∷ lines) = MayStand Plain begun line × AreStanding (begun || runs line) lines
+AreStanding begun (line ∷ lines) = Stands begun line × AreStanding (begun || runs line) lines
 
 -- a line printed nothing and ends the run: it asks for sizes that no image has, or memory was refused
 abbrev pub StopsAt : Ending → Option Stage → Line → Type 0

@@ -14,6 +14,7 @@
 mod endings;
 mod player;
 mod scripts;
+mod stops;
 
 use endings::Ending;
 use scripts::run_script;

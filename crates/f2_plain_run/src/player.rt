@@ -1,13 +1,17 @@
 //! Playing the lines of a script.
 ghost use Rattle.std.specs.Prelude.{◌≡◌, ◌≤◌, if◌then◌else◌, false, IfOk, OnOk, MatchOption};
-ghost use Rattle.f2_model.specs.Step as events;
-ghost use Rattle.f2_plain.specs.Events.{event_of, answer_of};
+ghost use Rattle.f2_model.specs.Step.{IsSeat};
+ghost use Rattle.f2_model.specs.declared.events.Answer.TheVariants as answers;
+ghost use Rattle.f2_model.specs.declared.events.Event.TheVariants as events;
+ghost use Rattle.f2_model.specs.declared.replies.Step.TheVariants as steps;
+ghost use Rattle.f2_plain.specs.Events.{IsSeated};
 ghost use Rattle.f2_script.specs.declared.script.Line.TheVariants as verb;
-ghost use Rattle.f2_plain_run.specs.Plays.{Ends, Happens, IsCall, Mounts, PlaysLine, Says, Unmounts, Counts, IsPlayed, IsSaying, is_fine as is_fine_reply, is_last as is_last_step, least, settled, tree_shown};
+ghost use Rattle.f2_plain_run.specs.declared.stops.Stop.TheVariants as stop;
+ghost use Rattle.f2_plain_run.specs.Plays.{Counts, Draws, Finishes, Goes, Happens, IsCall, IsPlayed, IsSaying, Mounts, PlaysLine, Says, Unmounts, is_fine as is_fine_step, is_ok as is_ok_reply, least, picked, settled, tree_shown};
 
-use f2_model::{Begun, Reply, Request, Step};
-use f2_plain::{Answer, Choices, Event, Extent, Machine};
-use f2_plain_state::Mode;
+use crate::stops::Stop;
+use f2_model::{Answer, Begun, Event, MOUNT_SEAT, Mode, Reply, Request, Step};
+use f2_plain::{Choices, Machine, MarksKept};
 use f2_script::{
     Line, begun_text, counted_text, found_text, mounted_text, next_call, reply_text, step_text,
     tick_text, tree_text, unmounted_text,
@@ -15,23 +19,13 @@ use f2_script::{
 use std::alloc::{AllocError, Global};
 use std::marker::Model;
 
-/// The seat of mounts and unmounts.
-const MOUNT_SEAT: u8 = 0;
-
-/// A call makes fewer events than this: one for each page and node that it writes, and four more.
-const MOST_EVENTS: u32 = 65_536;
+/// A call makes fewer events than this: one for each page, two for each node, and six more.
+const MOST_EVENTS: u32 = 131_072;
 
 /// As little as may remain: the acknowledged marks alone, and no pending tree.
 const LEAST: Choices = Choices {
-    marks: Extent::Fewest,
+    marks: MarksKept::Fewest,
     pending: false,
-    blocks: 0,
-};
-
-/// All that was written.
-const WHOLE: Choices = Choices {
-    marks: Extent::Most,
-    pending: true,
     blocks: 0,
 };
 
@@ -58,16 +52,9 @@ impl Model for Player {
     ghost view = { λ p. record { seen = p.machine; choices = p.choices; is_settled = p.is_settled } };
 }
 
-/// Whether a step leaves its seat with nothing in flight.
-fn is_last(step: &Step) -> bool
-    ensures { result ≡ is_last_step step.now }
-{
-    matches!(step, Step::None | Step::Replied(_))
-}
-
 /// Whether the text of a reply begins with `ok`.
-fn is_fine(reply: &Reply) -> bool
-    ensures { result ≡ is_fine_reply reply.now }
+fn is_ok(reply: &Reply) -> bool
+    ensures { result ≡ is_ok_reply reply.now }
 {
     matches!(
         reply,
@@ -75,12 +62,22 @@ fn is_fine(reply: &Reply) -> bool
     )
 }
 
-/// One for a reply whose text begins with `ok`, and none for another.
-fn fine_of(reply: &Reply) -> u32
-    ensures value { result ≡ (if is_fine_reply reply.now then 1 else 0) }
+/// Whether a call came to a reply whose text begins with `ok`.
+fn is_fine(step: &Step) -> bool
+    ensures { result ≡ is_fine_step step.now }
+{
+    match step {
+        Step::Replied(reply) => is_ok(reply),
+        _ => false,
+    }
+}
+
+/// One for a call that came to a reply whose text begins with `ok`, and none for another.
+fn fine_of(step: &Step) -> u32
+    ensures value { result ≡ (if is_fine_step step.now then 1 else 0) }
     ensures most { result ≤ 1 }
 {
-    if is_fine(reply) { 1 } else { 0 }
+    if is_fine(step) { 1 } else { 0 }
 }
 
 impl Player {
@@ -119,20 +116,24 @@ impl Player {
     {
         match line {
             Line::Call { seat, request } => {
-                let reply = self.call(seat, request)?;
-                reply_text(self.alloc, &reply)
+                let last = self.call(seat, request)?;
+                step_text(self.alloc, &last)
             }
             Line::Begin { seat, request } => {
                 let begun = self.begin(seat, request)?;
                 begun_text(self.alloc, &begun)
             }
             Line::Go { seat } => {
-                let step = self.go(seat)?;
+                let step = self.go(seat, Stop::Told)?;
+                step_text(self.alloc, &step)
+            }
+            Line::Slot { seat } => {
+                let step = self.draw(seat)?;
                 step_text(self.alloc, &step)
             }
             Line::End { seat } => {
-                let step = self.end(seat)?;
-                step_text(self.alloc, &step)
+                let last = self.go(seat, Stop::Over)?;
+                step_text(self.alloc, &last)
             }
             Line::Tick => self.tick(),
             Line::Crash { pick } => self.crash(pick),
@@ -149,14 +150,16 @@ impl Player {
 
     /// One event.
     fn step(&mut self, event: Event) -> Result<Answer, AllocError>
-        ensures { IfOk result (λ answer. Happens (event_of event) (answer_of answer) self.old self.new) }
+        requires { IsSeated event }
+        ensures { IfOk result (λ answer. Happens event answer self.old self.new) }
     {
         self.machine.step(event, self.choices)
     }
 
     /// Begins a call.
     fn begin(&mut self, seat: u8, request: Request) -> Result<Begun, AllocError>
-        ensures { IfOk result (λ begun. Happens (events.Begin seat request) (events.Began begun) self.old self.new) }
+        requires { IsSeat seat }
+        ensures { IfOk result (λ begun. Happens (events.Begin seat request) (answers.Began begun) self.old self.new) }
     {
         match self.step(Event::Begin { seat, request })? {
             Answer::Began(begun) => Ok(begun),
@@ -165,8 +168,8 @@ impl Player {
     }
 
     /// The next event of a seat's call.
-    fn go(&mut self, seat: u8) -> Result<Step, AllocError>
-        ensures { IfOk result (λ step. Happens (events.Go seat) (events.Stepped step) self.old self.new) }
+    fn go_once(&mut self, seat: u8) -> Result<Step, AllocError>
+        ensures { IfOk result (λ step. Happens (events.Go seat) (answers.Stepped step) self.old self.new) }
     {
         match self.step(Event::Go { seat })? {
             Answer::Stepped(step) => Ok(step),
@@ -174,29 +177,63 @@ impl Player {
         }
     }
 
-    /// Carries a seat's call on to its reply.
-    fn end(&mut self, seat: u8) -> Result<Step, AllocError>
-        ensures { IfOk result (λ last. Ends seat last self.old self.new) }
+    /// Carries a seat's call on to where a line stops.
+    fn go(&mut self, seat: u8, stop: Stop) -> Result<Step, AllocError>
+        ensures { IfOk result (λ last. Goes stop seat last self.old self.new) }
     {
         for _ in 0..MOST_EVENTS {
-            let step = self.go(seat)?;
-            if is_last(&step) {
+            let step = self.go_once(seat)?;
+            if stop.is_at(&step) {
                 return Ok(step);
             }
         }
         Err(AllocError)
     }
 
-    /// Begins a call and carries it on to its reply.
-    fn call(&mut self, seat: u8, request: Request) -> Result<Reply, AllocError>
-        ensures { IfOk result (λ told. IsCall seat request told self.old self.new) }
+    /// The next event of a seat's call, which draws a position of the node log.
+    fn draw_next(&mut self, seat: u8) -> Result<u32, AllocError>
+        ensures { IfOk result (λ position. Happens (events.Go seat) (answers.Stepped (steps.Slot position)) self.old self.new) }
+    {
+        match self.go_once(seat)? {
+            Step::Slot(position) => Ok(position),
+            _ => Err(AllocError),
+        }
+    }
+
+    /// The next event of a seat's call, where that draws a position of the node log.
+    fn draw(&mut self, seat: u8) -> Result<Step, AllocError>
+        ensures { IfOk result (λ step. Draws seat step self.old self.new) }
+    {
+        if self.machine.draws_next(seat) {
+            let position = self.draw_next(seat)?;
+            Ok(Step::Slot(position))
+        } else {
+            Ok(Step::None)
+        }
+    }
+
+    /// Begins a call and carries it on to its reply, or to where it has to wait.
+    fn call(&mut self, seat: u8, request: Request) -> Result<Step, AllocError>
+        requires { IsSeat seat }
+        ensures { IfOk result (λ last. IsCall seat request last self.old self.new) }
     {
         match self.begin(seat, request)? {
-            Begun::Replied(reply) => Ok(reply),
-            Begun::Going(_) => match self.end(seat)? {
-                Step::Replied(reply) => Ok(reply),
+            Begun::Replied(reply) => Ok(Step::Replied(reply)),
+            Begun::Going(_) => match self.go(seat, Stop::Over)? {
+                Step::Replied(reply) => Ok(Step::Replied(reply)),
+                Step::Again(position) => Ok(Step::Again(position)),
                 _ => Err(AllocError),
             },
+        }
+    }
+
+    /// Carries the checkpoint of a mount or an unmount on to its end.
+    fn finish(&mut self) -> Result<(), AllocError>
+        ensures { OnOk result (Finishes self.old self.new) }
+    {
+        match self.go(MOUNT_SEAT, Stop::Over)? {
+            Step::Replied(Reply::Synced) => Ok(()),
+            _ => Err(AllocError),
         }
     }
 
@@ -211,23 +248,28 @@ impl Player {
     }
 
     /// What the next mount finds after a crash with this pick.
-    fn choices_after(&self, pick: u64) -> Choices
-        ensures { result ≡ (settled pick self.now).choices }
+    fn choices_after(&self, pick: u64) -> Result<Choices, AllocError>
+        ensures { IfOk result (λ choices. choices ≡ picked pick self.now) }
     {
         if self.is_settled {
-            self.choices
+            Ok(self.choices)
         } else if pick == 0 {
-            LEAST
+            Ok(LEAST)
         } else {
-            WHOLE
+            let place = self.machine.written_place()?;
+            Ok(Choices {
+                marks: MarksKept::UpTo(place),
+                pending: true,
+                blocks: 0,
+            })
         }
     }
 
-    /// A crash with this pick settles what the next mount finds, unless one before it did.
-    fn settle(&mut self, pick: u64)
-        ensures { self.new ≡ settled pick self.old }
+    /// A crash settles what the next mount finds.
+    fn settle(&mut self, choices: Choices)
+        ensures { self.new ≡ settled choices self.old }
     {
-        self.choices = self.choices_after(pick);
+        self.choices = choices;
         self.is_settled = true;
     }
 
@@ -240,7 +282,7 @@ impl Player {
 
     /// Power is lost.
     fn lose_power(&mut self) -> Result<(), AllocError>
-        ensures { OnOk result (Happens events.Crash events.Crashed self.old self.new) }
+        ensures { OnOk result (Happens events.Crash answers.Crashed self.old self.new) }
     {
         match self.step(Event::Crash)? {
             Answer::Crashed => Ok(()),
@@ -252,18 +294,19 @@ impl Player {
     fn crash(&mut self, pick: u64) -> Result<Vec<u8>, AllocError>
         ensures { IfOk result (λ text. Says self.old (verb.Crash pick) text.items self.new) }
     {
+        let choices = self.choices_after(pick)?;
         self.lose_power()?;
-        self.settle(pick);
+        self.settle(choices);
         Vec::from_slice(self.alloc, b"ok")
     }
 
     /// Begins a mount, and gives how many rows it found, unless the volume is open.
     fn begin_mount(&mut self) -> Result<Option<u32>, AllocError>
-        ensures { IfOk result (λ rows. MatchOption rows (Happens events.Mount events.AlreadyMounted self.old self.new) (λ rows. Happens events.Mount (events.Found rows) self.old self.new)) }
+        ensures { IfOk result (λ rows. MatchOption rows (Happens events.Mount answers.AlreadyMounted self.old self.new) (λ rows. Happens events.Mount (answers.Found rows) self.old self.new)) }
     {
         match self.step(Event::Mount)? {
             Answer::Found(rows) => Ok(Some(rows)),
-            Answer::Mounted => Ok(None),
+            Answer::AlreadyMounted => Ok(None),
             _ => Err(AllocError),
         }
     }
@@ -274,7 +317,7 @@ impl Player {
     {
         match self.begin_mount()? {
             Some(rows) => {
-                let _ = self.end(MOUNT_SEAT)?;
+                self.finish()?;
                 self.unsettle();
                 found_text(self.alloc, rows)
             }
@@ -289,7 +332,7 @@ impl Player {
         match self.step(Event::Unmount)? {
             Answer::Began(Begun::Replied(refusal)) => reply_text(self.alloc, &refusal),
             Answer::Began(Begun::Going(_)) => {
-                let _ = self.end(MOUNT_SEAT)?;
+                self.finish()?;
                 Vec::from_slice(self.alloc, unmounted_text())
             }
             _ => Err(AllocError),
@@ -307,7 +350,7 @@ impl Player {
         }
     }
 
-    /// Makes the calls of a generator, and counts their replies.
+    /// Makes the calls of a generator, and counts what they came to.
     fn generate(&mut self, start: u64, count: u32) -> Result<Vec<u8>, AllocError>
         ensures { IfOk result (λ text. Counts start count text.items self.old self.new) }
     {
@@ -315,8 +358,8 @@ impl Player {
         let mut fine = 0;
         for _ in 0..count {
             let (next, seat, request) = next_call(self.alloc, x)?;
-            let reply = self.call(seat, request)?;
-            fine += fine_of(&reply);
+            let last = self.call(seat, request)?;
+            fine += fine_of(&last);
             x = next;
         }
         counted_text(self.alloc, count, fine, count - fine)

@@ -1,12 +1,10 @@
 //! Running a script.
 ghost use Rattle.std.specs.Prelude.{◌≡◌, ◌++◌, ◌∷◌, [], false, IfOk, MatchResult, is_some};
 ghost use Rattle.f2_format.specs.Geometry.{node_third, data_third};
-ghost use Rattle.f2_script.specs.Grammar.{MayStand};
 ghost use Rattle.f2_script.specs.Steps.{made_spelling};
-ghost use Rattle.f2_script.specs.declared.script.Grammar.TheVariants as grammar;
 ghost use Rattle.f2_script.specs.declared.script.Line.TheVariants as verb;
 ghost use Rattle.f2_plain_run.specs.Plays.{limits_of};
-ghost use Rattle.f2_plain_run.specs.Prints.{AreStanding, EndsAs, PlaysNext, Prints, StopsAt};
+ghost use Rattle.f2_plain_run.specs.Prints.{AreStanding, EndsAs, PlaysNext, Prints, Stands, StopsAt};
 
 use crate::endings::Ending;
 use crate::player::Player;
@@ -59,7 +57,7 @@ fn play_next(
     player: Option<Player>,
     line: Line,
 ) -> Result<(Option<Player>, Vec<u8>), Ending>
-    requires { MayStand grammar.Plain (is_some player) line }
+    requires { Stands (is_some player) line }
     ensures { MatchResult result (λ next. PlaysNext player line next.1.items next.0) (λ ending. StopsAt ending player line) }
 {
     match (player, line) {

@@ -1,8 +1,7 @@
 use Rattle.std.proofs.Common.{◌≡◌, ◌∙◌, subst}
-use Rattle.f2_model.specs.Step as machine
+use Rattle.f2_model.specs.declared.events.Event.TheVariants as event
+use Rattle.f2_model.specs.declared.events.Answer.TheVariants as answer
 use Rattle.f2_model.specs.declared.replies.Begun.TheVariants as begun
-use Rattle.f2_plain.specs.Events.{answer_of}
-use Rattle.f2_plain.specs.declared.events.Answer.TheVariants as answer
 use Rattle.f2_plain_run.specs.Plays.{Happens, closed, refused}
 use Rattle.f2_plain_run.proofs.Playing.{if_ok}
 use Rattle.f2_plain_run.proofs.player.Player.unmount.Goals as goal
@@ -10,13 +9,13 @@ use Rattle.f2_plain_run.proofs.player.Player.unmount.Goals as goal
 pub returns-in-Began-Replied : goal.returns-in-Began-Replied
 returns-in-Began-Replied c =
     let is : c.in_ok-refusal.field-0 ≡ answer.Began (begun.Replied c.in-Began-Replied.refusal) = cc in
-    let happened = subst (λ a. Happens machine.Unmount (answer_of a) c.args.self.now c.step.new.self) is c.in_ok-refusal.ensures in
+    let happened = subst (λ a. Happens event.Unmount a c.args.self.now c.step.new.self) is c.in_ok-refusal.ensures in
     if_ok _ _ c.reply_text.result (λ text said. refused c.in-Began-Replied.refusal happened said) c.reply_text.ensures
 
 pub returns-in-Began-Going : goal.returns-in-Began-Going
 returns-in-Began-Going c =
     let is : c.in_ok-refusal.field-0 ≡ answer.Began (begun.Going c.in-Began-Going.field-0-0) = cc in
-    let happened = subst (λ a. Happens machine.Unmount (answer_of a) c.args.self.now c.step.new.self) is c.in_ok-refusal.ensures in
+    let happened = subst (λ a. Happens event.Unmount a c.args.self.now c.step.new.self) is c.in_ok-refusal.ensures in
     if_ok _ _ c.from_slice.result
-    (λ text said. closed c.in-Began-Going.field-0-0 _ c.step.new.self happened c.in_ok-end-in-Began-Going.ensures (said ∙ c.unmounted_text.ensures))
+    (λ text said. closed c.in-Began-Going.field-0-0 c.step.new.self happened c.in_ok-finish-in-Began-Going.ensures (said ∙ c.unmounted_text.ensures))
     c.from_slice.ensures.items

@@ -1,5 +1,0 @@
-use Rattle.f2_plain_run.specs.Plays.{GoesOn}
-use Rattle.f2_plain_run.proofs.player.Player.end.Given as goal
-
-abbrev pub invariant-loop : goal.invariant-loop
-invariant-loop l = GoesOn l.seat l.initial.self l.self
