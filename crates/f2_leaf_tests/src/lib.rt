@@ -24,6 +24,8 @@ mod nid_pool;
 #[cfg(test)]
 mod pages;
 #[cfg(test)]
+mod scans;
+#[cfg(test)]
 mod seat_lock;
 #[cfg(test)]
 mod shape;
