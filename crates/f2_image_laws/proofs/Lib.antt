@@ -1,0 +1,3 @@
+-- Proofs of the laws about images.
+pub mod Chain
+pub mod Names

@@ -1,0 +1,3 @@
+-- Laws about images.
+pub mod Chained
+pub mod Named

@@ -1,0 +1,8 @@
+//! The chains of the images of a disk.
+ghost use Rattle.f2_image_laws.specs.Chained.{ChainsOfDisks};
+
+/// The chain of every image that a crash may leave of a disk is a first part of the positions of its node log: it
+/// has each position up to the first one whose block the image lacks.
+pub fn chains_of_disks()
+    ensures { ChainsOfDisks }
+{}

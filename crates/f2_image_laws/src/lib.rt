@@ -1,0 +1,12 @@
+//! Laws about images, in the words of `f2_image`: which chain a disk's images have, that each row of a base has its
+//! name in a dentry, on which blocks what an image stands for depends, and that its tree is good and fits it.
+//!
+//! No program runs this crate. Each function has an empty body, and its contract is a law that holds of every image;
+//! the statements stand in `specs/`, one file a topic.
+#![tactic(auto)]
+
+mod chained;
+mod named;
+
+pub use chained::chains_of_disks;
+pub use named::names_are_dentries;
