@@ -1,3 +1,11 @@
 -- Proofs of the laws about images.
 pub mod Chain
 pub mod Names
+pub mod SameNodes
+pub mod Agreeing
+pub mod Alike
+pub mod AlikeBases
+pub mod AlikeMarks
+pub mod AlikeNodes
+pub mod AlikeTrees
+pub mod AlikeFaults

@@ -1,3 +1,4 @@
 -- Laws about images.
 pub mod Chained
 pub mod Named
+pub mod Depending

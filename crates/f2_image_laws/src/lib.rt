@@ -6,7 +6,9 @@
 #![tactic(auto)]
 
 mod chained;
+mod depending;
 mod named;
 
 pub use chained::chains_of_disks;
+pub use depending::same_blocks_same_meaning;
 pub use named::names_are_dentries;
