@@ -9,3 +9,9 @@ pub mod AlikeMarks
 pub mod AlikeNodes
 pub mod AlikeTrees
 pub mod AlikeFaults
+pub mod Sound
+pub mod Pages
+pub mod BaseRows
+pub mod GoodBase
+pub mod MarkRows
+pub mod RolledTree

@@ -2,3 +2,4 @@
 pub mod Chained
 pub mod Named
 pub mod Depending
+pub mod Rolled

@@ -8,7 +8,9 @@
 mod chained;
 mod depending;
 mod named;
+mod rolled;
 
 pub use chained::chains_of_disks;
 pub use depending::same_blocks_same_meaning;
 pub use named::names_are_dentries;
+pub use rolled::rolled_trees_are_proper;

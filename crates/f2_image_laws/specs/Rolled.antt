@@ -1,0 +1,24 @@
+-- The tree that an image's base and marks make is good, and within the limits of the image.
+use Rattle.std.specs.Prelude.{List, All}
+use Rattle.f2_format.specs.Geometry.{Extent, node_third, data_third, nid_limit}
+use Rattle.f2_format.specs.Inode.{SIZE_LIMIT}
+use Rattle.f2_disk.specs.Contents.{IsBlock}
+use Rattle.f2_model.specs.Tree.{Rows}
+use Rattle.f2_model.specs.State.{Mark, rolled}
+use Rattle.f2_model.specs.declared.bounds.Limits.{Limits}
+use Rattle.f2_image.specs.Images.{Image}
+use Rattle.f2_image.specs.Packs.{Checkpoint}
+use Rattle.f2_image.specs.Meanings.{MeansAt}
+use Rattle.f2_room_laws.specs.ProperTrees.{IsProperTree}
+
+-- what an image of these sizes grants: a third of each zone, the nids of its table, and the longest file
+abbrev pub limits_of : Extent → Limits
+limits_of extent = record { nodes = node_third extent; data_blocks = data_third extent; nids = nid_limit extent; size = SIZE_LIMIT }
+
+-- what a sound image of whole blocks stands for makes a proper tree
+abbrev pub RolledTreesAreProper : Type 0
+RolledTreesAreProper =
+    (image : Image) (point : Checkpoint) (base : Rows) (marks : List Mark) →
+    All IsBlock image →
+    MeansAt image point base marks →
+    IsProperTree (limits_of point.extent) (rolled base marks)
