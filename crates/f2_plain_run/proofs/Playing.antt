@@ -1,5 +1,5 @@
 -- What one event, and what some calls, come to.
-use Rattle.std.proofs.Common.{◌≡◌, ℕ, ◌+◌, List, refl, sym, subst, arith, Result, Ok, Err, IfOk}
+use Rattle.std.proofs.Common.{◌≡◌, ℕ, ◌+◌, sym, subst, arith, Result, Ok, Err, IfOk}
 use Rattle.std.proofs.Math.Nat.{mod-lt}
 use Rattle.std.specs.Prelude.{if◌then◌else◌}
 use Rattle.f2_model.specs.Step.{IsSeat}
