@@ -19,7 +19,7 @@ use f2_script::{
 use std::alloc::{AllocError, Global};
 use std::marker::Model;
 
-/// A call makes fewer events than this: one for each page, two for each node, and six more.
+/// A call makes fewer events than this: one for each page, two for each direct node, and four more.
 const MOST_EVENTS: u32 = 131_072;
 
 /// As little as may remain: the acknowledged marks alone, and no pending tree.
