@@ -16,12 +16,7 @@ use Rattle.f2_image.specs.Faults as faults
 use Rattle.f2_image_laws.specs.Depending.{DependsOn}
 use Rattle.f2_image_laws.specs.Depending as depending
 use Rattle.f2_image_laws.proofs.SameNodes.{HasSameNodes}
-
-pub zero_of : (n : ℕ) → (n == 0) ≡ true → n ≡ 0
-zero_of n e = grind (arith, e)
-
-pub other_of : (n : ℕ) → (n == 0) ≡ false → n ≢ 0
-other_of n e zero = grind (arith, e, zero)
+use Rattle.f2_image_laws.proofs.Numbers.{differ_of, not_less}
 
 -- lists of numbers are the same or differ
 same_or_not : (xs ys : List ℕ) → Dec (xs ≡ ys)
@@ -63,7 +58,7 @@ sound_table image point sound = by_order (dec_lt MOST_JOURNAL_ENTRIES (journal_c
 
     by_order : Dec (MOST_JOURNAL_ENTRIES < journal_count point.summary) → HasTable point
     by_order (yes many) = absurd (sound Journal (journal_count point.summary) not_end (many, refl))
-    by_order (no few) = omega (arith, few)
+    by_order (no few) = not_less MOST_JOURNAL_ENTRIES (journal_count point.summary) few
 
 pub bad_nat : BadNat ≢ VersionEnd
 bad_nat e = cc
@@ -73,7 +68,7 @@ block_there-same a b at same = by_zero (at == 0) refl
   where
     by_zero : (b' : Bool) → (at == 0) ≡ b' → cond b' None (Some (block_at b at)) ≡ cond b' None (Some (block_at a at))
     by_zero true e = refl
-    by_zero false e = ap Some (same (other_of at e))
+    by_zero false e = ap Some (same (differ_of at 0 e))
 
 module _ (image other : Image) (point : Checkpoint) (sound : IsSound image point) (agree : (at : ℕ) → DependsOn image point at → block_at other at ≡ block_at image at) where
   same_place : (nid : ℕ) → nid < nid_limit point.extent → place_of_nid other point nid ≡ place_of_nid image point nid

@@ -26,9 +26,7 @@ use Rattle.f2_image.proofs.Dentries.{node_in_table, same_inode}
 use Rattle.f2_image_laws.proofs.Agreeing.{sound_table}
 use Rattle.f2_image_laws.proofs.Sound.{no_bad_inode, no_bad_tree, page_is_block}
 use Rattle.f2_image_laws.proofs.Pages.{good_pages}
-
-pub kinds_differ : Regular ≡ Directory → ⊥
-kinds_differ e = cc
+use Rattle.f2_image_laws.proofs.Numbers.{not_less}
 
 module _ (image : Image) (point : Checkpoint) (sound : IsSound image point) (base : Rows) (is_base : IsBase image point base) where
   -- the base has a row for each ino that is reached, and no other
@@ -105,10 +103,7 @@ module _ (image : Image) (point : Checkpoint) (sound : IsSound image point) (bas
           where
             by_order : Dec (SIZE_LIMIT < (inode_of at.inode).size) → row.size ≤ SIZE_LIMIT
             by_order (yes large) = absurd (no_bad_inode image point sound _ (faults.in_base (sound_table image point sound) ino at.inode at.reached is.there refl (inr (inr large))))
-            by_order (no small) = subst (λ n. n ≤ SIZE_LIMIT) (sym content.0) (not_more SIZE_LIMIT (inode_of at.inode).size small)
-              where
-                not_more : (m n : ℕ) → ¬ (m < n) → n ≤ m
-                not_more m n small = omega (arith, small)
+            by_order (no small) = subst (λ n. n ≤ SIZE_LIMIT) (sym content.0) (not_less SIZE_LIMIT (inode_of at.inode).size small)
 
     pub base_pages : (ino : ℕ) (row : Row) → map.get base ino ≡ Some row → HasGoodPages SIZE_LIMIT row
     base_pages ino row there = by_kind row.kind refl

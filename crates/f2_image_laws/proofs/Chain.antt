@@ -3,19 +3,11 @@ use Rattle.std.proofs.Common.{◌≡◌, ◌≢◌, ◌⊎◌, inl, inr, ℕ, ze
 use Rattle.std.specs.List.{AllByRecursion, Contains}
 use Rattle.std.proofs.lemmas.List.Elements.{All-contains}
 use Rattle.f2_format.specs.Footer.{footer_version, footer_next}
-use Rattle.f2_disk.specs.Contents.{Contents, IsImage}
+use Rattle.f2_disk.specs.Contents.{Contents, list_at, IsImage}
 use Rattle.f2_image.specs.Images.{Image, block_at}
 use Rattle.f2_image.specs.Chains.{Logged, chain_from}
 use Rattle.f2_image_laws.specs.Chained.{Follow, contents_at, HoldsOrOther, HoldsNone, HoldsAlone, IsLogOf, address_of, IsFirstPart}
-
-same_of : (m n : ℕ) → (m == n) ≡ true → m ≡ n
-same_of m n e = grind (arith, e)
-
-differ_of : (m n : ℕ) → (m == n) ≡ false → m ≢ n
-differ_of m n e same = grind (arith, e, same)
-
-test_differs : (m n : ℕ) → m ≢ n → (m == n) ≡ false
-test_differs m n differ = grind (arith, differ)
+use Rattle.f2_image_laws.proofs.Numbers.{same_of, differ_of, test_same, test_differs}
 
 -- an image has at each address one of the contents there
 member : (lists : Contents) (image : Image) → IsImage lists image → (at : ℕ) → Contains (contents_at lists at) (block_at image at)
@@ -29,6 +21,12 @@ member (list ∷ lists) (block ∷ image) is (suc at) = member lists image is.1 
 only_one : (content block : List ℕ) → Contains (content ∷ []) block → block ≡ content
 only_one content block (zero, within, is) = sym is
 only_one content block (suc k, within, is) = absurd (omega (arith, within))
+
+-- within the disk the contents at an address are its list
+pub contents_are_list : (lists : Contents) (at : ℕ) → at < length lists → contents_at lists at ≡ list_at lists at
+contents_are_list [] at small = absurd (omega (arith, small))
+contents_are_list (list ∷ lists) zero small = refl
+contents_are_list (list ∷ lists) (suc at) small = contents_are_list lists at (omega (arith, small))
 
 module _ (lists : Contents) (image : Image) (is : IsImage lists image) (version : ℕ) where
   holds : (P : List ℕ → Type 0) (at : ℕ) → All P (contents_at lists at) → P (block_at image at)
@@ -58,13 +56,10 @@ module _ (lists : Contents) (image : Image) (is : IsImage lists image) (version 
   goes_on most at there same =
       let more : List Logged = record { at = at; block = block_at image at } ∷ chain_from image version most (footer_next (block_at image at)) in
       ap (λ b. cond b [] (cond (footer_version (block_at image at) == version) more [])) (test_differs at 0 there) ∙ ap (λ b. cond b more []) (test_same (footer_version (block_at image at)) version same)
-    where
-      test_same : (m n : ℕ) → m ≡ n → (m == n) ≡ true
-      test_same m n e = grind (arith, e)
 
   -- no position is in a chain that ends at once
   ends_at_once : (start most : ℕ) (positions : List Logged) → chain_from image version most start ≡ []
-      → ((kept : ℕ) → kept ≤ length positions → AllByRecursion (HoldsAlone lists version) (take kept positions) → kept ≤ 0) → IsFirstPart lists version start positions (chain_from image version most start)
+      → ((kept : ℕ) → kept ≤ length positions → AllByRecursion (HoldsAlone lists version) (take kept positions) → kept ≤ 0) → IsFirstPart lists version positions (chain_from image version most start)
   ends_at_once start most positions ends alone = record {
     count = 0;
     within = omega arith;
@@ -79,8 +74,8 @@ module _ (lists : Contents) (image : Image) (is : IsImage lists image) (version 
 
   -- one position more
   one_more : (start most : ℕ) (one : Logged) (rest : List Logged) → one.at ≡ start → start ≢ 0 → HoldsOrOther lists version one
-      → IsFirstPart lists version (footer_next one.block) rest (chain_from image version most (footer_next one.block))
-      → IsFirstPart lists version start (one ∷ rest) (chain_from image version (suc most) start)
+      → IsFirstPart lists version rest (chain_from image version most (footer_next one.block))
+      → IsFirstPart lists version (one ∷ rest) (chain_from image version (suc most) start)
   one_more start most one rest at there held later = by_version (footer_version (block_at image start) == version) refl
     where
       block : List ℕ
@@ -89,7 +84,7 @@ module _ (lists : Contents) (image : Image) (is : IsImage lists image) (version 
       at_start : block ≡ block_at image one.at
       at_start = ap (block_at image) (sym at)
 
-      by_version : (b : Bool) → (footer_version block == version) ≡ b → IsFirstPart lists version start (one ∷ rest) (chain_from image version (suc most) start)
+      by_version : (b : Bool) → (footer_version block == version) ≡ b → IsFirstPart lists version (one ∷ rest) (chain_from image version (suc most) start)
       by_version false e = ends_at_once start (suc most) (one ∷ rest) (ended (suc most) start (λ at_all. other)) alone
         where
           other : footer_version block ≢ version
@@ -125,12 +120,12 @@ module _ (lists : Contents) (image : Image) (is : IsImage lists image) (version 
           none (suc place) small lacks = let before = later.none place (omega (arith, small)) lacks in omega (arith, before)
 
   first_part : (next start most : ℕ) (positions : List Logged) → Follow start positions next → AllByRecursion (HoldsOrOther lists version) positions → (next ≢ 0 → HoldsNone lists version next)
-      → length positions ≤ most → IsFirstPart lists version start positions (chain_from image version most start)
+      → length positions ≤ most → IsFirstPart lists version positions (chain_from image version most start)
   first_part next start most [] follow held free fits =
       ends_at_once start most [] (ended most start (λ there. holds_none start (subst (HoldsNone lists version) (sym follow) (free (λ e. there (follow ∙ e)))))) (λ kept few all. few)
   first_part next start zero (one ∷ rest) follow held free fits = absurd (omega (arith, fits))
   first_part next start (suc most) (one ∷ rest) follow held free fits =
       one_more start most one rest follow.0 follow.1 held.0 (first_part next (footer_next one.block) most rest follow.2 held.1 free (omega (arith, fits)))
 
-  pub chain_is_first_part : (start next most : ℕ) (positions : List Logged) → IsLogOf lists version start next positions → length positions ≤ most → IsFirstPart lists version start positions (chain_from image version most start)
+  pub chain_is_first_part : (start next most : ℕ) (positions : List Logged) → IsLogOf lists version start next positions → length positions ≤ most → IsFirstPart lists version positions (chain_from image version most start)
   chain_is_first_part start next most positions log fits = first_part next start most positions log.follow log.held log.free fits

@@ -24,6 +24,7 @@ use Rattle.f2_image_laws.proofs.Names.{row_has_name}
 use Rattle.f2_image_laws.proofs.AlikeTrees.{below_is_reached}
 use Rattle.f2_image_laws.proofs.Sound.{no_bad_tree}
 use Rattle.f2_image_laws.proofs.BaseRows.{dentry_above, directory_row, base_pages}
+use Rattle.f2_image_laws.proofs.Numbers.{not_less}
 
 module _ (image : Image) (point : Checkpoint) (sound : IsSound image point) (base : Rows) (is_base : IsBase image point base) where
   name_of : (ino : ℕ) (row : Row) → map.get base ino ≡ Some row → ino ≢ ROOT → HasName image point ino row
@@ -102,12 +103,9 @@ module _ (image : Image) (point : Checkpoint) (sound : IsSound image point) (bas
       below : (depth : ℕ) × IsBelow image point depth ino
       below = some_depth image point ino (is_base.rows ino row there).reached
 
-      not_more : (m n : ℕ) → ¬ (m < n) → n ≤ m
-      not_more m n small = omega (arith, small)
-
       by_order : Dec (most_depth row.kind < below.0) → below.0 ≤ most_depth row.kind
       by_order (yes deep) = let at = is_base.rows ino row there in absurd (no_bad_tree image point sound ino (faults.too_deep below.0 row.kind at.inode below.1 at.is deep))
-      by_order (no fine) = not_more (most_depth row.kind) below.0 fine
+      by_order (no fine) = not_less (most_depth row.kind) below.0 fine
 
   pub good_base : All IsBlock image → IsSized image point.extent → IsGoodTree SIZE_LIMIT base
   good_base blocks sized = record {

@@ -1,4 +1,5 @@
 -- Proofs of the laws about images.
+pub mod Numbers
 pub mod Chain
 pub mod Names
 pub mod SameNodes

@@ -23,13 +23,10 @@ use Rattle.f2_image.specs.Reached.{IsMarkedAt, IsMarkedPage, IsTaken}
 use Rattle.f2_image.specs.Reached as reached
 use Rattle.f2_image.specs.Faults.{IsSound, IsDirectoryOf, BringsName, IsPastSize}
 use Rattle.f2_image.specs.Faults as faults
-use Rattle.f2_image_laws.proofs.Agreeing.{zero_of}
 use Rattle.f2_image_laws.proofs.Sound.{no_bad_nat, no_bad_inode, no_bad_tree, none_without_parent, page_is_block}
-use Rattle.f2_image_laws.proofs.Pages.{good_pages}
-use Rattle.f2_image_laws.proofs.BaseRows.{kinds_differ, not_reached, directory_row}
-
-not_more : (m n : ℕ) → ¬ (m < n) → n ≤ m
-not_more m n small = omega (arith, small)
+use Rattle.f2_image_laws.proofs.Pages.{kinds_differ, good_pages}
+use Rattle.f2_image_laws.proofs.BaseRows.{not_reached, directory_row}
+use Rattle.f2_image_laws.proofs.Numbers.{same_of, not_less}
 
 first_true : (a b : Bool) → (a && b) ≡ true → a ≡ true
 first_true true b e = refl
@@ -59,7 +56,7 @@ module _ (image : Image) (point : Checkpoint) (sound : IsSound image point) (bas
   own_nid = by_test (ℕ_discrete (footer_nid (block_in (chain image point) place)) (footer_ino (block_in (chain image point) place)))
     where
       offset : footer_offset (block_in (chain image point) place) ≡ 0
-      offset = zero_of (footer_offset (block_in (chain image point) place)) (first_true (footer_offset (block_in (chain image point) place) == 0) (has_fsync_mark (block_in (chain image point) place)) marked.marked)
+      offset = same_of (footer_offset (block_in (chain image point) place)) 0 (first_true (footer_offset (block_in (chain image point) place) == 0) (has_fsync_mark (block_in (chain image point) place)) marked.marked)
 
       by_test : Dec (footer_nid (block_in (chain image point) place) ≡ footer_ino (block_in (chain image point) place)) → footer_nid (block_in (chain image point) place) ≡ mark.ino
       by_test (yes same) = same ∙ own
@@ -77,10 +74,7 @@ module _ (image : Image) (point : Checkpoint) (sound : IsSound image point) (bas
     where
       by_order : Dec (mark.ino < nid_limit point.extent) → mark.ino < nid_limit point.extent
       by_order (yes small) = small
-      by_order (no past) = absurd (no_bad_nat image point sound mark.ino (faults.no_nid place (block_in (chain image point) place) taken own_nid (inr (past_it mark.ino (nid_limit point.extent) past))))
-        where
-          past_it : (m n : ℕ) → ¬ (m < n) → n ≤ m
-          past_it m n past = omega (arith, past)
+      by_order (no past) = absurd (no_bad_nat image point sound mark.ino (faults.no_nid place (block_in (chain image point) place) taken own_nid (inr (not_less mark.ino (nid_limit point.extent) past))))
 
   -- the name of a file of the base stays, another one's comes with the mark
   pub keeps : (old : Row) → map.get base mark.ino ≡ Some old → (mark.row.parent ≡ old.parent) × (mark.row.name ≡ old.name)
@@ -159,4 +153,4 @@ module _ (image : Image) (point : Checkpoint) (sound : IsSound image point) (bas
         where
           by_order : Dec (SIZE_LIMIT < (inode_of (block_in (chain image point) place)).size) → mark.row.size ≤ SIZE_LIMIT
           by_order (yes large) = absurd (no_bad_inode image point sound _ (faults.in_log place (block_in (chain image point) place) marked refl (inr (inr large))))
-          by_order (no small) = subst (λ n. n ≤ SIZE_LIMIT) (sym is.size) (not_more SIZE_LIMIT (inode_of (block_in (chain image point) place)).size small)
+          by_order (no small) = subst (λ n. n ≤ SIZE_LIMIT) (sym is.size) (not_less SIZE_LIMIT (inode_of (block_in (chain image point) place)).size small)

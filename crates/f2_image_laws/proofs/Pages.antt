@@ -15,7 +15,10 @@ use Rattle.f2_image.specs.Images.{Image, block_at}
 use Rattle.f2_image.specs.Nodes.{block_there}
 use Rattle.f2_image.specs.Faults.{IsPastSize}
 use Rattle.f2_image.specs.Faults as faults
-use Rattle.f2_image_laws.proofs.Agreeing.{other_of}
+use Rattle.f2_image_laws.proofs.Numbers.{differ_of, not_less}
+
+pub kinds_differ : Regular ≡ Directory → ⊥
+kinds_differ e = cc
 
 -- the pages of a file's row are the blocks at these addresses, which are whole and end before its size
 pub record ArePagesAt (image : Image) (row : Row) (address : ℕ → ℕ) : Type 0 where
@@ -32,7 +35,7 @@ is_there image at bytes = by_zero (at == 0) refl
   where
     by_zero : (b : Bool) → (at == 0) ≡ b → cond b None (Some (block_at image at)) ≡ Some bytes → (at ≢ 0) × (block_at image at ≡ bytes)
     by_zero true e there = absurd (none-some bytes there)
-    by_zero false e there = (other_of at e, same_Some (block_at image at) bytes there)
+    by_zero false e there = (differ_of at 0 e, same_Some (block_at image at) bytes there)
 
 module _ (image : Image) (row : Row) (address : ℕ → ℕ) (are : ArePagesAt image row address) where
   at_page : (page : ℕ) (bytes : List ℕ) → map.get row.pages page ≡ Some bytes → (page < page_limit) × (address page ≢ 0) × (block_at image (address page) ≡ bytes)
@@ -49,10 +52,7 @@ module _ (image : Image) (row : Row) (address : ℕ → ℕ) (are : ArePagesAt i
     where
       by_order : Dec (page * PAGE < row.size) → page * PAGE < row.size
       by_order (yes small) = small
-      by_order (no past) = let at = at_page page bytes has in absurd (are.before page at.0 at.1 (faults.whole (past_it (page * PAGE) row.size past)))
-        where
-          past_it : (m n : ℕ) → ¬ (m < n) → n ≤ m
-          past_it m n past = omega (arith, past)
+      by_order (no past) = let at = at_page page bytes has in absurd (are.before page at.0 at.1 (faults.whole (not_less (page * PAGE) row.size past)))
 
   zeros : (page at : ℕ) (bytes : List ℕ) → map.get row.pages page ≡ Some bytes → row.size ≤ page * PAGE + at → slice_index bytes at ≡ 0
   zeros page at bytes has past = by_order (dec_lt at 4096)
@@ -76,6 +76,3 @@ module _ (image : Image) (row : Row) (address : ℕ → ℕ) (are : ArePagesAt i
     before = before;
     zeros = zeros;
   }
-    where
-      kinds_differ : Regular ≡ Directory → ⊥
-      kinds_differ e = cc

@@ -1,5 +1,5 @@
 -- A sound image's marks rolled over its base, one after another: each leaves a good tree.
-use Rattle.std.proofs.Common.{◌≡◌, ◌≢◌, ◌⊎◌, inl, inr, ℕ, zero, suc, ◌+◌, ◌<◌, ◌≤◌, ◌==◌, Bool, true, false, cond, IsTrue, List, [], ◌∷◌, length, All, filter, refl, sym, ap, ◌∙◌, subst, arith}
+use Rattle.std.proofs.Common.{◌≡◌, ◌≢◌, ◌⊎◌, inl, inr, ℕ, zero, suc, ◌+◌, ◌<◌, ◌≤◌, Bool, true, false, cond, IsTrue, List, [], ◌∷◌, length, All, filter, refl, sym, ap, ◌∙◌, subst, arith}
 use Rattle.std.specs.Prelude.{Option, Some, None}
 use Rattle.std.specs.List.{AllZip, range_with_len}
 use Rattle.std.specs.Cmp.{nat_cmp_total, unsigned_tied}
@@ -28,28 +28,20 @@ use Rattle.f2_room_laws.specs.ProperTrees.{IsProperTree}
 use Rattle.f2_room_laws.specs.Marking.{MayComeIn}
 use Rattle.f2_room_laws.proofs.Marks.{rows_come_in}
 use Rattle.f2_image_laws.specs.Named.{HasName}
-use Rattle.f2_image_laws.specs.Rolled.{limits_of}
+use Rattle.f2_image_laws.specs.Rolled.{image_limits}
 use Rattle.f2_image_laws.proofs.Names.{row_has_name}
 use Rattle.f2_image_laws.proofs.Sound.{no_conflict, none_full}
 use Rattle.f2_image_laws.proofs.BaseRows.{base_number, is_directory}
 use Rattle.f2_image_laws.proofs.GoodBase.{good_base}
 use Rattle.f2_image_laws.proofs.MarkRows as mark_rows
-
-not_more : (m n : ℕ) → ¬ (m < n) → n ≤ m
-not_more m n small = omega (arith, small)
+use Rattle.f2_image_laws.proofs.Numbers.{test_same, test_differs, not_less}
 
 -- what a map has after a row was put into it
 put_here : (tree : Rows) (k : ℕ) (v : Row) (q : ℕ) → q ≡ k → map.get (map.insert tree k v) q ≡ Some v
-put_here tree k v q e = map.get-insert nat_cmp_total tree k v q ∙ ap (λ b. cond b (Some v) (map.get tree q)) (unsigned_tied q k ∙ is q k e)
-  where
-    is : (q k : ℕ) → q ≡ k → (q == k) ≡ true
-    is q k e = grind (arith, e)
+put_here tree k v q e = map.get-insert nat_cmp_total tree k v q ∙ ap (λ b. cond b (Some v) (map.get tree q)) (unsigned_tied q k ∙ test_same q k e)
 
 put_elsewhere : (tree : Rows) (k : ℕ) (v : Row) (q : ℕ) → q ≢ k → map.get (map.insert tree k v) q ≡ map.get tree q
-put_elsewhere tree k v q other = map.get-insert nat_cmp_total tree k v q ∙ ap (λ b. cond b (Some v) (map.get tree q)) (unsigned_tied q k ∙ is q k other)
-  where
-    is : (q k : ℕ) → q ≢ k → (q == k) ≡ false
-    is q k other = grind (arith, other)
+put_elsewhere tree k v q other = map.get-insert nat_cmp_total tree k v q ∙ ap (λ b. cond b (Some v) (map.get tree q)) (unsigned_tied q k ∙ test_differs q k other)
 
 -- a row of a rolled tree has kind, parent and name of the base's row of its ino
 pub record IsOfBase (base : Rows) (ino : ℕ) (row : Row) : Type 0 where
@@ -82,6 +74,11 @@ module _ (image : Image) (point : Checkpoint) (sound : IsSound image point) (bas
   not_in_base place ino parent name at old brings there other under named =
       let has : HasName image point at old = row_has_name image point base is_base at old there other in
       no_conflict image point sound ino (faults.in_base place parent name has.dentry brings (subst (IsReached image point) under has.up) (subst (λ d. HasDentry image point d has.dentry) under has.has) (has.named ∙ named))
+
+  -- what came from a mark before a place came from one before the next place
+  later : (place ino : ℕ) (row : Row) → IsOfBase base ino row ⊎ IsOfMark image point place ino row → IsOfBase base ino row ⊎ IsOfMark image point (place + 1) ino row
+  later place ino row (inl from) = inl from
+  later place ino row (inr from) = let before = from.earlier in inr (record { place = from.place; earlier = omega (arith, before); regular = from.regular; brings = from.brings })
 
   module _ (place : ℕ) (tree : Rows) (so_far : IsRolledTo image point base place tree) (mark : Mark) (is : IsMark image point base (chain image point) place mark) (marked : IsMarkedAt image point place (block_in (chain image point) place)) where
     above : 4 ≤ mark.ino
@@ -180,15 +177,11 @@ module _ (image : Image) (point : Checkpoint) (sound : IsSound image point) (bas
         by_row None e = inr (record { place = place; earlier = omega arith; regular = regular; brings = mark_rows.brings image point sound base is_base place mark is marked e })
         by_row (Some old) e = by_kind old e old.kind refl
 
-    later : (ino : ℕ) (row : Row) → IsOfBase base ino row ⊎ IsOfMark image point place ino row → IsOfBase base ino row ⊎ IsOfMark image point (place + 1) ino row
-    later ino row (inl from) = inl from
-    later ino row (inr from) = let before = from.earlier in inr (record { place = from.place; earlier = omega (arith, before); regular = from.regular; brings = from.brings })
-
     after_rows : (ino : ℕ) (row : Row) → map.get after ino ≡ Some row → Dec (ino ≡ mark.ino) → IsOfBase base ino row ⊎ IsOfMark image point (place + 1) ino row
     after_rows ino row there (yes e) =
         let same : mark.row ≡ row = same_Some mark.row row (sym (put_here tree mark.ino mark.row ino e) ∙ there) in
         subst (λ r. IsOfBase base ino r ⊎ IsOfMark image point (place + 1) ino r) same (subst (λ k. IsOfBase base k mark.row ⊎ IsOfMark image point (place + 1) k mark.row) (sym e) of_mark)
-    after_rows ino row there (no other) = later ino row (so_far.rows ino row (sym (put_elsewhere tree mark.ino mark.row ino other) ∙ there))
+    after_rows ino row there (no other) = later place ino row (so_far.rows ino row (sym (put_elsewhere tree mark.ino mark.row ino other) ∙ there))
 
     after_numbers : (ino : ℕ) (row : Row) → map.get after ino ≡ Some row → Dec (ino ≡ mark.ino) → (ROOT ≤ ino) × (ino < nid_limit point.extent)
     after_numbers ino row there (yes e) =
@@ -212,13 +205,9 @@ module _ (image : Image) (point : Checkpoint) (sound : IsSound image point) (bas
   passed place tree so_far = record {
     good = so_far.good;
     numbers = so_far.numbers;
-    rows = λ ino row there. later (so_far.rows ino row there);
+    rows = λ ino row there. later place ino row (so_far.rows ino row there);
     directories = so_far.directories;
   }
-    where
-      later : {ino : ℕ} {row : Row} → IsOfBase base ino row ⊎ IsOfMark image point place ino row → IsOfBase base ino row ⊎ IsOfMark image point (place + 1) ino row
-      later (inl from) = inl from
-      later (inr from) = let before = from.earlier in inr (record { place = from.place; earlier = omega (arith, before); regular = from.regular; brings = from.brings })
 
   -- all marks
   abbrev Fits : List ℕ → List Mark → Type 0
@@ -259,7 +248,7 @@ module _ (image : Image) (point : Checkpoint) (sound : IsSound image point) (bas
   pub rolled_to_end : (marks : List Mark) → AreMarks image point base marks → IsRolledTo image point base (length (chain image point)) (rolled base marks)
   rolled_to_end marks are = rolls 0 (length (chain image point)) (omega arith) base marks none_yet are
 
-pub rolled_tree_proper : (image : Image) (point : Checkpoint) (base : Rows) (marks : List Mark) → All IsBlock image → MeansAt image point base marks → IsProperTree (limits_of point.extent) (rolled base marks)
+pub rolled_tree_proper : (image : Image) (point : Checkpoint) (base : Rows) (marks : List Mark) → All IsBlock image → MeansAt image point base marks → IsProperTree (image_limits point.extent) (rolled base marks)
 rolled_tree_proper image point base marks blocks means = record {
   good = all.good;
   numbers = all.numbers;
@@ -281,8 +270,8 @@ rolled_tree_proper image point base marks blocks means = record {
 
     nodes : Dec (node_third point.extent < nodes_of_tree (rolled base marks)) → nodes_of_tree (rolled base marks) ≤ node_third point.extent
     nodes (yes many) = absurd (none_full image point means.sound (node_third point.extent) (faults.tree_nodes (rolled base marks) has refl many))
-    nodes (no few) = not_more (node_third point.extent) (nodes_of_tree (rolled base marks)) few
+    nodes (no few) = not_less (node_third point.extent) (nodes_of_tree (rolled base marks)) few
 
     data_blocks : Dec (data_third point.extent < data_of_tree (rolled base marks)) → data_of_tree (rolled base marks) ≤ data_third point.extent
     data_blocks (yes many) = absurd (none_full image point means.sound (data_third point.extent) (faults.tree_blocks (rolled base marks) has refl many))
-    data_blocks (no few) = not_more (data_third point.extent) (data_of_tree (rolled base marks)) few
+    data_blocks (no few) = not_less (data_third point.extent) (data_of_tree (rolled base marks)) few

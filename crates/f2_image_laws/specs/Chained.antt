@@ -2,7 +2,7 @@
 use Rattle.std.specs.Prelude.{◌≡◌, ◌≢◌, ◌⊎◌, ℕ, ◌<◌, ◌≤◌, List, [], ◌∷◌, length, take, slice_index_or, All}
 use Rattle.std.specs.List.{AllByRecursion}
 use Rattle.f2_format.specs.Footer.{footer_version, footer_next}
-use Rattle.f2_disk.specs.Contents.{Contents, IsImage}
+use Rattle.f2_disk.specs.Contents.{Contents, list_at, IsImage}
 use Rattle.f2_image.specs.Images.{Image}
 use Rattle.f2_image.specs.Chains.{Logged, chain_from, no_block}
 
@@ -38,13 +38,17 @@ abbrev pub address_of : List Logged → ℕ → ℕ
 address_of positions place = (slice_index_or positions place no_block).at
 
 -- the chain of an image is a first part of the positions, with each up to the first one whose block isn't there
-pub record IsFirstPart (lists : Contents) (version start : ℕ) (positions : List Logged) (chain : List Logged) : Type 0 where
+pub record IsFirstPart (lists : Contents) (version : ℕ) (positions : List Logged) (chain : List Logged) : Type 0 where
   pub count : ℕ
   pub within : count ≤ length positions
   pub is : chain ≡ take count positions
   -- positions that the disk holds alone are in it, and none from one on that it doesn't hold
   pub alone : (kept : ℕ) → kept ≤ length positions → AllByRecursion (HoldsAlone lists version) (take kept positions) → kept ≤ count
   pub none : (place : ℕ) → place < length positions → HoldsNone lists version (address_of positions place) → count ≤ place
+
+-- within the disk these are the contents that it holds, so there the three words above say what they say of its list
+abbrev pub ContentsAreLists : Type 0
+ContentsAreLists = (lists : Contents) (at : ℕ) → at < length lists → contents_at lists at ≡ list_at lists at
 
 -- the chain of each image of a disk
 abbrev pub ChainsOfDisks : Type 0
@@ -54,4 +58,4 @@ ChainsOfDisks =
     (image : Image) →
     IsImage lists image →
     length positions ≤ most →
-    IsFirstPart lists version start positions (chain_from image version most start)
+    IsFirstPart lists version positions (chain_from image version most start)

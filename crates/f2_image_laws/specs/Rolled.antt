@@ -12,8 +12,8 @@ use Rattle.f2_image.specs.Meanings.{MeansAt}
 use Rattle.f2_room_laws.specs.ProperTrees.{IsProperTree}
 
 -- what an image of these sizes grants: a third of each zone, the nids of its table, and the longest file
-abbrev pub limits_of : Extent → Limits
-limits_of extent = record { nodes = node_third extent; data_blocks = data_third extent; nids = nid_limit extent; size = SIZE_LIMIT }
+abbrev pub image_limits : Extent → Limits
+image_limits extent = record { nodes = node_third extent; data_blocks = data_third extent; nids = nid_limit extent; size = SIZE_LIMIT }
 
 -- what a sound image of whole blocks stands for makes a proper tree
 abbrev pub RolledTreesAreProper : Type 0
@@ -21,4 +21,4 @@ RolledTreesAreProper =
     (image : Image) (point : Checkpoint) (base : Rows) (marks : List Mark) →
     All IsBlock image →
     MeansAt image point base marks →
-    IsProperTree (limits_of point.extent) (rolled base marks)
+    IsProperTree (image_limits point.extent) (rolled base marks)
