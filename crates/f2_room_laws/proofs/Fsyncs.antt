@@ -78,10 +78,10 @@ module _ (limits : Limits) (state : State) (proper : IsProperTree limits state.l
   abbrev known_rows : List Row
   known_rows = rows_of state.base state.marks
 
-  row_regular : row.kind ≡ Regular
+  pub row_regular : row.kind ≡ Regular
   row_regular = regular row.kind tests.file
 
-  row_root : row.ino ≢ ROOT
+  pub row_root : row.ino ≢ ROOT
   row_root = no_root limits.size state.live proper.good row.ino row there row_regular
 
   -- the test of a row that may have the name
@@ -94,8 +94,16 @@ module _ (limits : Limits) (state : State) (proper : IsProperTree limits state.l
       ∙ ap (λ b. list_any (λ (at : ℕ × List ℕ). stands_at at.0 at.1 other) (if b then [] else ((row.parent, row.name) ∷ []))) (ne_eqb row.ino ROOT row_root)
       ∙ ap (λ b. b || false) (stands_true row.parent row.name other other_root parent name)
 
+  -- no row of the base or of a mark at another ino has the name
+  pub name_apart : (other : Row) → IsOneOf other known_rows → other.ino ≢ ROOT → other.parent ≡ row.parent → other.name ≡ row.name → other.ino ≡ row.ino
+  name_apart other listed other_root parent name = by_ino (same_or_other other.ino row.ino)
+    where
+      by_ino : (other.ino ≡ row.ino) ⊎ (other.ino ≢ row.ino) → other.ino ≡ row.ino
+      by_ino (inl same) = same
+      by_ino (inr apart) = absurd (true≢false (sym (name_taken other apart other_root parent name) ∙ none_passes takes_name other known_rows tests.name_free listed))
+
   free : (at : ℕ) (other : Row) → map.get tree_now at ≡ Some other → at ≢ ROOT → other.parent ≡ row.parent → other.name ≡ row.name → at ≡ row.ino
-  free at other found other_root parent name = by_ino (same_or_other at row.ino)
+  free at other found other_root parent name = sym keyed ∙ name_apart other (listed (rolled_row state.base state.marks at other found)) (λ root. other_root (sym keyed ∙ root)) parent name
     where
       keyed : other.ino ≡ at
       keyed = h.whole.good.keyed at other found
@@ -104,15 +112,12 @@ module _ (limits : Limits) (state : State) (proper : IsProperTree limits state.l
       listed (inl e) = one_of-left other (map.values state.base) (map_list (λ mark. mark.row) state.marks) (value_is_one state.base at other e)
       listed (inr e) = one_of-right other (map.values state.base) (map_list (λ mark. mark.row) state.marks) e
 
-      by_ino : (at ≡ row.ino) ⊎ (at ≢ row.ino) → at ≡ row.ino
-      by_ino (inl same) = same
-      by_ino (inr apart) =
-          let takes = name_taken other (λ same. apart (sym keyed ∙ same)) (λ root. other_root (sym keyed ∙ root)) parent name in
-          let fails = none_passes takes_name other known_rows tests.name_free (listed (rolled_row state.base state.marks at other found)) in
-          absurd (true≢false (sym takes ∙ fails))
+  -- the base has the directory
+  pub parent_there : (up : Row) × (map.get state.base row.parent ≡ Some up)
+  parent_there = some_there (map.get state.base row.parent) (not_false (map.contains_key state.base row.parent) tests.parent)
 
   ready : IsReady state.live state.base tree_now row.ino
-  ready = record { row = row; there = there; regular = row_regular; parent = some_there (map.get state.base row.parent) (not_false (map.contains_key state.base row.parent) tests.parent); free = free }
+  ready = record { row = row; there = there; regular = row_regular; parent = parent_there; free = free }
 
   module _ (seat : ℕ) (progress : Progress) where
     abbrev flights_more : Flights

@@ -9,3 +9,5 @@ pub mod Events
 pub mod BareTree
 pub mod Runs
 pub mod Stays
+pub mod Marked
+pub mod Fittings

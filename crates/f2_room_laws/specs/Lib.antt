@@ -4,3 +4,4 @@ pub mod Marking
 pub mod ProperStates
 pub mod Running
 pub mod Staying
+pub mod Fitting

@@ -13,15 +13,18 @@
 //! the same rows. And every event, also one whose write or flush fails, keeps what that asks
 //! ([`events_keep_states_proper`]): `IsProperState` in `specs/ProperStates.antt` says what holds of each state.
 //!
-//! And as long as a file is in fsync, the row that calls see of it stays ([`rows_stay_in_fsync`]).
+//! And as long as a file is in fsync, the row that calls see of it stays ([`rows_stay_in_fsync`]). The marks
+//! of every run go with their base and with each other ([`marks_fit`]).
 #![tactic(auto)]
 
+mod fitting;
 mod marking;
 mod proper_states;
 mod proper_trees;
 mod running;
 mod staying;
 
+pub use fitting::marks_fit;
 pub use marking::marks_come_in_well;
 pub use proper_states::events_keep_states_proper;
 pub use proper_trees::bare_tree_is_proper;
