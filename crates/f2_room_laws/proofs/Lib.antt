@@ -11,3 +11,5 @@ pub mod Runs
 pub mod Stays
 pub mod Marked
 pub mod Fittings
+pub mod PairCounts
+pub mod FlightSums
