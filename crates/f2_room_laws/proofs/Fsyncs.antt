@@ -1,5 +1,5 @@
 -- The beginning of an fsync that rolls forward: what its tests say of the file.
-use Rattle.std.proofs.Common.{◌≡◌, ◌≢◌, ◌⊎◌, inl, inr, ℕ, Bool, true, false, not, ◌&&◌, ◌||◌, nat_lt, List, [], ◌∷◌, ◌++◌, map as map_list, refl, sym, ap, subst, ◌∙◌, true≢false}
+use Rattle.std.proofs.Common.{◌≡◌, ◌≢◌, ◌⊎◌, inl, inr, ℕ, ◌+◌, ◌≤◌, Bool, true, false, not, ◌&&◌, ◌||◌, nat_lt, List, [], ◌∷◌, ◌++◌, map as map_list, refl, sym, ap, subst, ◌∙◌, true≢false}
 use Rattle.std.specs.Prelude.{Option, Some, None, is_some, if◌then◌else◌, ◌==◌}
 use Rattle.std.specs.Bool.{then_some}
 use Rattle.std.specs.List.{list_any, filter_map}
@@ -9,7 +9,7 @@ use Rattle.std.proofs.lemmas.Bool.{ltb-false, ne_eqb}
 use Rattle.f2_model.specs.Tree.{Rows, ROOT, is_directory, stands_at, names_of}
 use Rattle.f2_model.specs.State.{State, InFsync, Progress, rolled}
 use Rattle.f2_model.specs.Lists.{first_some}
-use Rattle.f2_model.specs.Fallback.{fallback, is_name_taken, lacks_room, held, recoverable, frozen_inos}
+use Rattle.f2_model.specs.Fallback.{sum_of, owed, needed, fallback, is_name_taken, lacks_room, held, recoverable, frozen_inos}
 use Rattle.f2_model.specs.declared.bounds.Limits.{Limits}
 use Rattle.f2_model.specs.declared.replies.Reason.{Reason}
 use Rattle.f2_model.specs.declared.replies.Reason.TheVariants.{NonRegular, Renamed, ParentNew, NameTaken, Shrunk, Room}
@@ -63,6 +63,15 @@ rolls limits state row h =
     no_reason (is_directory row.kind) (set.contains state.moved row.ino) (not (map.contains_key state.base row.parent)) (is_name_taken state row) (set.contains state.shrunk row.ino) (lacks_room limits state row.ino) h
     in
     record { file = tests.0; parent = tests.1; name_free = tests.2; room = tests.3 }
+
+-- and what it may have to write fits beside what was written and is owed
+pub writes_left : (limits : Limits) (state : State) (row : Row) → fallback limits state row ≡ None → (state.node_writes + (owed state).nodes + (needed state row.ino).nodes ≤ limits.nodes) × (state.data_writes + (owed state).pages + (needed state row.ino).pages ≤ limits.data_blocks)
+writes_left limits state row none =
+    let writes = sum_of (sum_of (record { nodes = state.node_writes; pages = state.data_writes }) (owed state)) (needed state row.ino) in
+    let data_room = either_false _ (nat_lt limits.data_blocks (held state row.ino).pages) (rolls limits state row none).room in
+    let node_room = either_false _ (nat_lt limits.nodes (held state row.ino).nodes) data_room.0 in
+    let both = either_false (nat_lt limits.nodes writes.nodes) (nat_lt limits.data_blocks writes.pages) node_room.0 in
+    (ltb-false limits.nodes writes.nodes both.0, ltb-false limits.data_blocks writes.pages both.1)
 
 some_there : (o : Option Row) → is_some o ≡ true → (row : Row) × (o ≡ Some row)
 some_there None e = absurd (true≢false (sym e))

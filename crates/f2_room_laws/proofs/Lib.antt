@@ -13,3 +13,6 @@ pub mod Marked
 pub mod Fittings
 pub mod PairCounts
 pub mod FlightSums
+pub mod TickAnswers
+pub mod CalledPairs
+pub mod Roomy

@@ -5,3 +5,4 @@ pub mod ProperStates
 pub mod Running
 pub mod Staying
 pub mod Fitting
+pub mod RoomForWrites

@@ -14,13 +14,15 @@
 //! ([`events_keep_states_proper`]): `IsProperState` in `specs/ProperStates.antt` says what holds of each state.
 //!
 //! And as long as a file is in fsync, the row that calls see of it stays ([`rows_stay_in_fsync`]). The marks
-//! of every run go with their base and with each other ([`marks_fit`]).
+//! of every run go with their base and with each other ([`marks_fit`]), and its writes fit the zones with
+//! what its fsyncs have still to write ([`writes_fit`]).
 #![tactic(auto)]
 
 mod fitting;
 mod marking;
 mod proper_states;
 mod proper_trees;
+mod room_for_writes;
 mod running;
 mod staying;
 
@@ -28,5 +30,6 @@ pub use fitting::marks_fit;
 pub use marking::marks_come_in_well;
 pub use proper_states::events_keep_states_proper;
 pub use proper_trees::bare_tree_is_proper;
+pub use room_for_writes::writes_fit;
 pub use running::what_may_remain_is_proper;
 pub use staying::rows_stay_in_fsync;
