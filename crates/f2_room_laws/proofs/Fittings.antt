@@ -14,6 +14,9 @@ use Rattle.f2_model.specs.declared.replies.Plan.TheVariants as plan
 use Rattle.f2_model.specs.declared.requests.Request.{Request}
 use Rattle.f2_model.specs.declared.rows.Row.{Row}
 use Rattle.f2_model.specs.declared.rows.Kind.TheVariants.{Regular}
+use Rattle.f2_model.specs.Run.{IsRun}
+use Rattle.f2_model.specs.declared.histories.Entry.{Entry}
+use Rattle.f2_model.specs.declared.modes.Format.{Format}
 use Rattle.f2_laws.specs.Flights.{Flights, IsFrozen}
 use Rattle.f2_laws.proofs.Walks.{some_same, walk_ends}
 use Rattle.f2_laws.proofs.Passed.{passed}
@@ -21,7 +24,7 @@ use Rattle.f2_laws.proofs.Flying.{Idle, frozen_more, frozen_left, frozen_check, 
 use Rattle.f2_laws.proofs.Dirtied.{dirty_only}
 use Rattle.f2_laws.proofs.Cases.{IsServed, RollsForward, Handles, step_handled}
 use Rattle.f2_laws.proofs.Runs.{runs_keep}
-use Rattle.f2_room_laws.specs.ProperTrees.{IsProperTree}
+use Rattle.f2_room_laws.specs.ProperTrees.{IsProperTree, HasRoomForRoot}
 use Rattle.f2_room_laws.specs.ProperStates.{IsProperState}
 use Rattle.f2_room_laws.specs.Running.{just_made}
 use Rattle.f2_room_laws.specs.Fitting.{FitsBase, NamesDiffer, AreFitting, MayBeMarked, IsBased, GoTogether, IsFittingState, InitialIsFitting, EventsKeepStatesFitting, FittingStatesFit, MarksFit}
@@ -223,10 +226,13 @@ initial_fitting limits meaning fitting = record {
 pub fitting_fits : FittingStatesFit
 fitting_fits limits state h = record { base = h.marks.fits; names = h.marks.names; trees = h.proper.remains }
 
-pub marks_fit : MarksFit
-marks_fit limits faults format version entries choices state room run =
-    fitting_fits limits state
-    (runs_keep limits (IsFittingState limits) (events_keep_states_fitting limits) faults (initial (just_made format version)) entries choices state (initial_fitting limits (just_made format version) bare_fits) run)
+-- a run of an image that was just made
+pub runs_fitting : (limits : Limits) (faults : Faults) (format : Format) (version : ℕ) (entries : List Entry) (choices : List ℕ) (state : State) → HasRoomForRoot limits → IsRun limits faults (initial (just_made format version)) entries choices state → IsFittingState limits state
+runs_fitting limits faults format version entries choices state room run =
+    runs_keep limits (IsFittingState limits) (events_keep_states_fitting limits) faults (initial (just_made format version)) entries choices state (initial_fitting limits (just_made format version) bare_fits) run
   where
     bare_fits : AreFitting limits (initial (just_made format version))
     bare_fits = record { base = no_marks limits _; names = no_names; trees = λ place from to. subst (λ (ms : List Mark). IsProperTree limits (rolled (just_made format version).base ms)) (sym (take_all place [] (omega arith))) (bare_proper limits room) }
+
+pub marks_fit : MarksFit
+marks_fit limits faults format version entries choices state room run = fitting_fits limits state (runs_fitting limits faults format version entries choices state room run)

@@ -16,3 +16,4 @@ pub mod FlightSums
 pub mod TickAnswers
 pub mod CalledPairs
 pub mod Roomy
+pub mod Numbers

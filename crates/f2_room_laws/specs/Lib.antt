@@ -6,3 +6,4 @@ pub mod Running
 pub mod Staying
 pub mod Fitting
 pub mod RoomForWrites
+pub mod FreeNumbers

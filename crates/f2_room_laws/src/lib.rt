@@ -15,10 +15,11 @@
 //!
 //! And as long as a file is in fsync, the row that calls see of it stays ([`rows_stay_in_fsync`]). The marks
 //! of every run go with their base and with each other ([`marks_fit`]), and its writes fit the zones with
-//! what its fsyncs have still to write ([`writes_fit`]).
+//! what its fsyncs have still to write ([`writes_fit`]); so a new row finds a number ([`numbers_are_free`]).
 #![tactic(auto)]
 
 mod fitting;
+mod free_numbers;
 mod marking;
 mod proper_states;
 mod proper_trees;
@@ -27,6 +28,7 @@ mod running;
 mod staying;
 
 pub use fitting::marks_fit;
+pub use free_numbers::numbers_are_free;
 pub use marking::marks_come_in_well;
 pub use proper_states::events_keep_states_proper;
 pub use proper_trees::bare_tree_is_proper;
