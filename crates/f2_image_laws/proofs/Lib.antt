@@ -10,6 +10,8 @@ pub mod AlikeMarks
 pub mod AlikeNodes
 pub mod AlikeTrees
 pub mod AlikeFaults
+pub mod ReadingNodes
+pub mod ReadingBases
 pub mod Sound
 pub mod Pages
 pub mod BaseRows

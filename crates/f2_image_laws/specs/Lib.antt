@@ -2,4 +2,5 @@
 pub mod Chained
 pub mod Named
 pub mod Depending
+pub mod Alike
 pub mod Rolled

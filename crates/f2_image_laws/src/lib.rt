@@ -8,9 +8,11 @@
 mod chained;
 mod depending;
 mod named;
+mod reading;
 mod rolled;
 
 pub use chained::chains_of_disks;
 pub use depending::same_blocks_same_meaning;
 pub use named::names_are_dentries;
+pub use reading::images_read_alike;
 pub use rolled::rolled_trees_are_proper;
