@@ -1,0 +1,24 @@
+-- Proofs of what changes of a disk keep.
+pub mod Fewer
+pub mod Crashed
+pub mod Addresses
+pub mod Zones
+pub mod ChainZones
+pub mod Each
+pub mod KeptImages
+pub mod KeptMarks
+pub mod KeptLogs
+pub mod FewerLogs
+pub mod Crashes
+pub mod Counts
+pub mod Flushes
+pub mod OneMore
+pub mod Members
+pub mod FreeWrites
+pub mod Submits
+pub mod Tails
+pub mod Checkpoints
+pub mod Pairs
+pub mod LongerLogs
+pub mod DrawnLogs
+pub mod Draws

@@ -1,0 +1,22 @@
+-- Proofs of the laws of what a volume keeps on its disk.
+pub mod Images
+pub mod Packs
+pub mod Clean
+pub mod Pending
+pub mod FoundImages
+pub mod Lists
+pub mod LogParts
+pub mod LogImages
+pub mod Rows
+pub mod Meant
+pub mod NodeFaults
+pub mod BlockFaults
+pub mod NameFaults
+pub mod TreeFaults
+pub mod Keys
+pub mod FullFaults
+pub mod LogLeft
+pub mod Safe
+pub mod Flushed
+pub mod Found
+pub mod InMemory
