@@ -36,7 +36,7 @@ pub tail_low : (side : Side) → tail_address side < NAT_START
 tail_low A = omega arith
 tail_low B = omega arith
 
-pub summary_low : (side : Side) → summary_address side < NAT_START
+summary_low : (side : Side) → summary_address side < NAT_START
 summary_low A = omega arith
 summary_low B = omega arith
 

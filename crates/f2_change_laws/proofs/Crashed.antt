@@ -9,7 +9,7 @@ use Rattle.f2_image_laws.specs.Chained.{contents_at}
 use Rattle.f2_change_laws.proofs.Fewer.{Fewer}
 
 -- each block of an image alone
-pub alone_at : (image : Image) (at : ℕ) → contents_at (alone image) at ≡ block_at image at ∷ []
+alone_at : (image : Image) (at : ℕ) → contents_at (alone image) at ≡ block_at image at ∷ []
 alone_at [] at = refl
 alone_at (block ∷ image) zero = refl
 alone_at (block ∷ image) (suc at) = alone_at image at
@@ -20,7 +20,7 @@ only_one content block (zero, within, is) = sym is
 only_one content block (suc k, within, is) = absurd (omega (arith, within))
 
 -- an image has at each address one of the contents there
-pub member : (lists : Contents) (image : Image) → IsImage lists image → (at : ℕ) → Contains (contents_at lists at) (block_at image at)
+member : (lists : Contents) (image : Image) → IsImage lists image → (at : ℕ) → Contains (contents_at lists at) (block_at image at)
 member [] [] is at = (0, omega arith, refl)
 member [] (block ∷ image) is at = absurd is
 member (list ∷ lists) [] is at = absurd is
@@ -65,7 +65,7 @@ latest_image (list ∷ lists) held = (Contains-get_or list (length list - 1) [] 
 pub flushed_image : (lists : Contents) → IsWhole (length lists) lists → IsImage lists (latest lists)
 flushed_image lists whole = latest_image lists whole.held
 
-pub latest_at : (lists : Contents) (at : ℕ) → block_at (latest lists) at ≡ last_of (contents_at lists at)
+latest_at : (lists : Contents) (at : ℕ) → block_at (latest lists) at ≡ last_of (contents_at lists at)
 latest_at [] at = refl
 latest_at (list ∷ lists) zero = refl
 latest_at (list ∷ lists) (suc at) = latest_at lists at

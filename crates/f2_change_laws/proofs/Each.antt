@@ -1,5 +1,5 @@
 -- What holds of each element of a list, with recursion on the list.
-use Rattle.std.proofs.Common.{ℕ, zero, suc, List, [], ◌∷◌, ◌++◌, map, take, subst}
+use Rattle.std.proofs.Common.{List, [], ◌∷◌, ◌++◌, map, subst}
 use Rattle.std.specs.List.{AllByRecursion, AllZip, Contains}
 use Rattle.std.proofs.lemmas.List.Elements.{All-from_recursion, recursion_from_All, Contains-get_or}
 
@@ -21,16 +21,6 @@ each_push P (y ∷ xs) x all one = (all.0, each_push P xs x all.1 one)
 pub each_map : {X Y : Type 0} (P : Y → Type 0) (f : X → Y) (xs : List X) → AllByRecursion (λ x. P (f x)) xs → AllByRecursion P (map f xs)
 each_map P f [] all = tt
 each_map P f (x ∷ xs) all = (all.0, each_map P f xs all.1)
-
-pub each_mapped : {X Y : Type 0} (P : Y → Type 0) (f : X → Y) (xs : List X) → AllByRecursion P (map f xs) → AllByRecursion (λ x. P (f x)) xs
-each_mapped P f [] all = tt
-each_mapped P f (x ∷ xs) all = (all.0, each_mapped P f xs all.1)
-
-pub each_take : {X : Type 0} (P : X → Type 0) (count : ℕ) (xs : List X) → AllByRecursion P xs → AllByRecursion P (take count xs)
-each_take P zero [] all = tt
-each_take P zero (x ∷ xs) all = tt
-each_take P (suc count) [] all = tt
-each_take P (suc count) (x ∷ xs) all = (all.0, each_take P count xs all.1)
 
 -- pairs, of which the first ones are known to be such
 pub zip_weaker : {A B : Type 0} (P : A → Type 0) (R S : A → B → Type 0) → ((a : A) (b : B) → P a → R a b → S a b) → (xs : List A) (ys : List B) → AllByRecursion P xs → AllZip R xs ys → AllZip S xs ys

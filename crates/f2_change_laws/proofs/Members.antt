@@ -12,7 +12,7 @@ pub contains_take : {X : Type 0} (count : ℕ) (xs : List X) (x : X) → Contain
 contains_take count xs x found = All-contains (Contains xs) (take count xs) x (All-take (Contains xs) count xs (All-contains_itself xs)) found
 
 -- at two places of a list whose members differ stand two members
-pub differ_places : {X : Type 0} (xs : List X) → AllDiffer xs → (i j : ℕ) (d e : X) → i < length xs → j < length xs → i ≢ j → get_or xs i d ≢ get_or xs j e
+differ_places : {X : Type 0} (xs : List X) → AllDiffer xs → (i j : ℕ) (d e : X) → i < length xs → j < length xs → i ≢ j → get_or xs i d ≢ get_or xs j e
 differ_places [] differ i j d e small less apart same = omega (arith, small)
 differ_places (x ∷ xs) differ zero zero d e small less apart same = apart refl
 differ_places (x ∷ xs) differ zero (suc j) d e small less apart same = All-from_recursion (λ y. x ≢ y) xs differ.0 j e (omega (arith, less)) same

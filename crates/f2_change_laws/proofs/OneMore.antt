@@ -16,7 +16,7 @@ pub record IsOneMore (lists new : Contents) (at : ℕ) (content : List ℕ) : Ty
   pub whole : IsWhole (length lists) lists → IsBlock content → IsWhole (length new) new
 
 -- a list's members, the first one or one of the rest
-pub first_or_rest : {X : Type 0} (x : X) (xs : List X) (y : X) → Contains (x ∷ xs) y → (x ≡ y) ⊎ Contains xs y
+first_or_rest : {X : Type 0} (x : X) (xs : List X) (y : X) → Contains (x ∷ xs) y → (x ≡ y) ⊎ Contains xs y
 first_or_rest x xs y (zero, small, is) = inl is
 first_or_rest x xs y (suc k, small, is) = inr (k, omega (arith, small), is)
 

@@ -117,9 +117,6 @@ module _ (lists new : Contents) (layout : Layout) (state : State) (place : ℕ) 
   held : AllByRecursion (λ p. HoldsAs new (log_version layout) p.logged p.fate) (set layout.log place told)
   held = recursion_from_All (λ p. HoldsAs new (log_version layout) p.logged p.fate) (set layout.log place told) (λ k d less. at_place k d (omega (arith, less, length-set layout.log place told)) (cases_eq k place))
     where
-      Holds : Position → Type 0
-      Holds p = HoldsAs new (log_version layout) p.logged p.fate
-
       at_place : (k : ℕ) (d : Position) → k < length layout.log → (k ≡ place) ⊎ (k ≢ place) → HoldsAs new (log_version layout) (slice_index_or (set layout.log place told) k d).logged (slice_index_or (set layout.log place told) k d).fate
       at_place k d less (inl here) =
           subst (λ (p : Position). HoldsAs new (log_version layout) p.logged p.fate) (sym (ap (λ i. slice_index_or (set layout.log place told) i d) here ∙ get_or-set_same layout.log place told d small)) held_now
