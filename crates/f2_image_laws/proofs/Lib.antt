@@ -18,3 +18,4 @@ pub mod BaseRows
 pub mod GoodBase
 pub mod MarkRows
 pub mod RolledTree
+pub mod SoundMarks

@@ -70,7 +70,7 @@ module _ (image : Image) (point : Checkpoint) (sound : IsSound image point) (bas
   good = good_base image point sound base is_base blocks sized
 
   -- a name that a mark brings stands in no directory of the base
-  not_in_base : (place ino parent : ℕ) (name : List ℕ) (at : ℕ) (old : Row) → BringsName image point place ino parent name → map.get base at ≡ Some old → at ≢ ROOT → old.parent ≡ parent → old.name ≡ name → ⊥
+  pub not_in_base : (place ino parent : ℕ) (name : List ℕ) (at : ℕ) (old : Row) → BringsName image point place ino parent name → map.get base at ≡ Some old → at ≢ ROOT → old.parent ≡ parent → old.name ≡ name → ⊥
   not_in_base place ino parent name at old brings there other under named =
       let has : HasName image point at old = row_has_name image point base is_base at old there other in
       no_conflict image point sound ino (faults.in_base place parent name has.dentry brings (subst (IsReached image point) under has.up) (subst (λ d. HasDentry image point d has.dentry) under has.has) (has.named ∙ named))
@@ -145,7 +145,7 @@ module _ (image : Image) (point : Checkpoint) (sound : IsSound image point) (bas
             absurd (not_in_base place mark.ino mark.row.parent mark.row.name ino from.old (mark_rows.brings image point sound base is_base place mark is marked e) from.there apart (sym from.parent ∙ parents) (sym from.named ∙ names))
         by_cases None e (inr from) = same_or_not from e (ℕ_discrete ino mark.ino)
 
-    may : MayComeIn SIZE_LIMIT tree mark.row
+    pub may : MayComeIn SIZE_LIMIT tree mark.row
     may = record {
       regular = mark_rows.regular image point sound base is_base place mark is marked;
       not_root = λ e. not_root (sym is.row_ino ∙ e);

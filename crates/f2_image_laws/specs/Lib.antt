@@ -4,3 +4,4 @@ pub mod Named
 pub mod Depending
 pub mod Alike
 pub mod Rolled
+pub mod Fitting
