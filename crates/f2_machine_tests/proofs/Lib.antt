@@ -1,0 +1,3 @@
+-- Lemmas of volumes.
+pub mod ClosedSteps
+pub mod ComeLemmas
