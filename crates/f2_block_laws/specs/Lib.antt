@@ -1,0 +1,2 @@
+-- Laws about the blocks of a tree.
+pub mod Nodes

@@ -1,0 +1,9 @@
+//! Laws about the blocks of a tree, in the words of `f2_stored`: which blocks are those of a tree at its places.
+//!
+//! No program runs this crate. Each function has an empty body, and its contract is a law; the statements stand in
+//! `specs/`, one file a topic.
+#![tactic(auto)]
+
+mod nodes;
+
+pub use nodes::blocks_are_nodes;
