@@ -1,2 +1,3 @@
 -- Laws about the blocks of a tree.
 pub mod Nodes
+pub mod Directories

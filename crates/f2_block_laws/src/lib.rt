@@ -4,6 +4,8 @@
 //! `specs/`, one file a topic.
 #![tactic(auto)]
 
+mod directories;
 mod nodes;
 
+pub use directories::packed_directories_stand;
 pub use nodes::blocks_are_nodes;
