@@ -1,5 +1,5 @@
 -- Lists whose members differ.
-use Rattle.std.proofs.Common.{◌≡◌, ◌≢◌, inl, inr, suc, ◌≤◌, List, [], ◌∷◌, ◌++◌, length, map, refl, sym, ap, ◌∙◌, arith}
+use Rattle.std.proofs.Common.{◌≡◌, ◌≢◌, ◌⊎◌, inl, inr, suc, ◌≤◌, List, [], ◌∷◌, ◌++◌, length, map, refl, sym, ap, ◌∙◌, arith}
 use Rattle.std.specs.List.{AllByRecursion}
 use Rattle.std.specs.List.Sorted.{IsStrictlySortedBy}
 use Rattle.std.specs.Cmp.{IsTotalOrder, tied_itself}
@@ -46,3 +46,35 @@ module _ {K : Type 0} {R : K → K → Ordering} (o : IsTotalOrder R) where
   unfolding IsStrictlySortedBy
   rising_differ [] rises = tt
   rising_differ (x ∷ xs) rises = (above_differ x xs rises.0, rising_differ xs rises.1)
+
+-- a list without a member at its place
+without : {X : Type 0} (x : X) (xs : List X) → IsIn x xs → List X
+without x [] h = absurd h
+without x (y ∷ xs) (inl e) = xs
+without x (y ∷ xs) (inr h) = y ∷ without x xs h
+
+length-without : {X : Type 0} (x : X) (xs : List X) (h : IsIn x xs) → length xs ≡ suc (length (without x xs h))
+unfolding without
+length-without x [] h = absurd h
+length-without x (y ∷ xs) (inl e) = refl
+length-without x (y ∷ xs) (inr h) = ap (λ n. suc n) (length-without x xs h)
+
+still_in : {X : Type 0} (x : X) (xs : List X) (h : IsIn x xs) (y : X) → x ≢ y → IsIn y xs → IsIn y (without x xs h)
+unfolding without
+still_in x [] h y other there = absurd h
+still_in x (z ∷ xs) (inl e) y other (inl f) = absurd (other (e ∙ sym f))
+still_in x (z ∷ xs) (inl e) y other (inr there) = there
+still_in x (z ∷ xs) (inr h) y other (inl f) = inl f
+still_in x (z ∷ xs) (inr h) y other (inr there) = inr (still_in x xs h y other there)
+
+all_still_in : {X : Type 0} (x : X) (xs : List X) (h : IsIn x xs) (ys : List X) → AllByRecursion (λ y. x ≢ y) ys → AllByRecursion (λ y. IsIn y xs) ys → AllByRecursion (λ y. IsIn y (without x xs h)) ys
+all_still_in x xs h [] other there = tt
+all_still_in x xs h (y ∷ ys) other there = (still_in x xs h y other.0 there.0, all_still_in x xs h ys other.1 there.1)
+
+-- things that differ are no more than a list that has them all is long
+pub no_more : {X : Type 0} (few all : List X) → AllDiffer few → AllByRecursion (λ x. IsIn x all) few → length few ≤ length all
+no_more [] all differ there = omega arith
+no_more (x ∷ few) all differ there =
+    let rest = no_more few (without x all there.0) differ.1 (all_still_in x all there.0 few differ.0 there.1) in
+    let one = length-without x all there.0 in
+    omega (arith, rest, one)

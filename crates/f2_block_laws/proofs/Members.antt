@@ -1,7 +1,8 @@
 -- What stands in a list.
 use Rattle.std.proofs.Common.{◌≡◌, ◌⊎◌, inl, inr, ℕ, zero, suc, ◌+◌, ◌<◌, ◌≤◌, Bool, true, false, cond, ◌||◌, List, [], ◌∷◌, ◌++◌, length, map, refl, sym, ap, ◌∙◌, subst, arith, true≢false}
-use Rattle.std.specs.Prelude.{Some}
+use Rattle.std.specs.Prelude.{Some, Contains}
 use Rattle.std.specs.List.{AllByRecursion, filter, flat_map, list_any, slice_get}
+use Rattle.std.proofs.lemmas.Option.{slice_get-get_or, slice_get_within, get_or_from_slice_get}
 
 -- a thing stands in a list
 abbrev pub IsIn : {X : Type 0} → X → List X → Type 0
@@ -68,6 +69,12 @@ in_list [] i x h = absurd (cc)
 in_list (y ∷ xs) zero x h = let same : y ≡ x = cc in inl (sym same)
 in_list (y ∷ xs) (suc i) x h = inr (in_list xs i x h)
 
+-- a member has a place
+pub place_of : {X : Type 0} (x : X) (xs : List X) → IsIn x xs → (i : ℕ) × (slice_get xs i ≡ Some x)
+place_of x [] h = absurd h
+place_of x (y ∷ ys) (inl e) = (0, ap Some (sym e))
+place_of x (y ∷ ys) (inr h) = let rest = place_of x ys h in (suc rest.0, rest.1)
+
 -- a test that ties the same things alone finds a member
 pub from_any : {X : Type 0} (test : X → Bool) (xs : List X) → list_any test xs ≡ true → (x : X) × IsIn x xs × (test x ≡ true)
 from_any test [] h = absurd (true≢false (sym h))
@@ -86,8 +93,29 @@ in_any test x (y ∷ xs) passes (inr h) = by_test (test y) (in_any test x xs pas
     by_test true rest = refl
     by_test false rest = rest
 
+-- what holds of each holds of all
+pub all_from : {X : Type 0} (P : X → Type 0) (xs : List X) → ((x : X) → IsIn x xs → P x) → AllByRecursion P xs
+all_from P [] each = tt
+all_from P (x ∷ xs) each = (each x (inl refl), all_from P xs (λ y there. each y (inr there)))
+
 -- what holds of all holds of each
 pub of_all : {X : Type 0} (P : X → Type 0) (x : X) (xs : List X) → AllByRecursion P xs → IsIn x xs → P x
 of_all P x [] all h = absurd h
 of_all P x (y ∷ xs) all (inl e) = subst P (sym e) all.0
 of_all P x (y ∷ xs) all (inr h) = of_all P x xs all.1 h
+
+-- what a flat map of a list has comes from a member
+pub from_flat_map : {X Y : Type 0} (f : X → List Y) (y : Y) (xs : List X) → IsIn y (flat_map f xs) → (x : X) × IsIn x xs × IsIn y (f x)
+from_flat_map f y [] h = absurd h
+from_flat_map f y (x ∷ xs) h = by_part (from_flat_map f y xs) (in_either y (f x) (flat_map f xs) h)
+  where
+    by_part : (IsIn y (flat_map f xs) → (z : _) × IsIn z xs × IsIn y (f z)) → IsIn y (f x) ⊎ IsIn y (flat_map f xs) → (z : _) × IsIn z (x ∷ xs) × IsIn y (f z)
+    by_part rest (inl here) = (x, inl refl, here)
+    by_part rest (inr later) = let more = rest later in (more.0, inr more.1, more.2)
+
+-- the same in the words of contracts
+pub from_contains : {X : Type 0} (xs : List X) (x : X) → Contains xs x → IsIn x xs
+from_contains xs x there = in_list xs there.0 x (slice_get-get_or xs there.0 x there.1 ∙ ap Some there.2)
+
+pub contains_in : {X : Type 0} (xs : List X) (x : X) → IsIn x xs → Contains xs x
+contains_in xs x there = let found = place_of x xs there in (found.0, slice_get_within xs found.0 x found.1, get_or_from_slice_get xs found.0 x x found.1)

@@ -4,14 +4,8 @@ use Rattle.std.specs.Prelude.{Some}
 use Rattle.std.specs.List.{flat_map, slice_get}
 use Rattle.std.proofs.lemmas.List.{map-append}
 use Rattle.f2_image.specs.Reached.{AllDiffer}
-use Rattle.f2_block_laws.proofs.Members.{IsIn, in_left, in_right, in_either, in_map, in_list, of_all}
+use Rattle.f2_block_laws.proofs.Members.{IsIn, in_left, in_right, in_either, in_map, in_list, place_of, of_all}
 use Rattle.f2_block_laws.proofs.Differ.{differ_front, differ_back, differ_across}
-
--- a member has a place
-pub place_of : {X : Type 0} (x : X) (xs : List X) → IsIn x xs → (i : ℕ) × (slice_get xs i ≡ Some x)
-place_of x [] h = absurd h
-place_of x (y ∷ ys) (inl e) = (0, ap Some (sym e))
-place_of x (y ∷ ys) (inr h) = let rest = place_of x ys h in (suc rest.0, rest.1)
 
 -- where the keys of all members differ, two of one key stand at one place
 same_place : {X K : Type 0} (key : X → K) (xs : List X) → AllDiffer (map key xs) → (i j : ℕ) (a b : X) → slice_get xs i ≡ Some a → slice_get xs j ≡ Some b → key a ≡ key b → i ≡ j
