@@ -1,10 +1,11 @@
 -- The node that a slot of another one names, by the offsets that an image's nodes have and by those that a file's have.
-use Rattle.std.proofs.Common.{◌≡◌, ◌≢◌, ℕ, ◌+◌, ◌-◌, ◌*◌, ◌/◌, ◌%◌, ◌<◌, ◌==◌, nat_lt, ◌&&◌, Bool, true, false, cond, Some, None, refl, ap, sym, subst, ◌∙◌, inl, inr, arith}
+use Rattle.std.proofs.Common.{◌≡◌, ◌≢◌, ℕ, ◌+◌, ◌*◌, ◌<◌, ◌≤◌, ◌⊎◌, zero, suc, Bool, true, false, cond, Some, None, refl, ap, sym, subst, ◌∙◌, inl, inr, arith}
 use Rattle.std.proofs.lemmas.Option.{same_Some}
-use Rattle.std.proofs.lemmas.Bool.{cases_eq, eq-eqb, ne_eqb}
+use Rattle.std.proofs.lemmas.Bool.{cases_eq, ne_eqb}
 use Rattle.std.proofs.lemmas.Bool.Decides.{nat_tests}
 use Rattle.f2_format.specs.Offsets.{node_slots}
-use Rattle.f2_image.specs.Reached.{offset_below, is_low_indirect}
+use Rattle.f2_format.specs.Inode.{NIDS_AN_INODE}
+use Rattle.f2_image.specs.Reached.{offset_below, nids_of_node, is_low_indirect}
 use Rattle.f2_blocks.specs.Tree.{has_nids, node_at, node_limit}
 use Rattle.f2_blocks.proofs.Shape.{is_above, first, second, double, below, node_within}
 
@@ -79,3 +80,42 @@ is_inner n slot low not_inode small is =
       ];
       high = subst (λ m. m < node_limit) at.is (node_within n slot at.kind at.high small);
     }
+
+-- which node names another in a slot of its own
+pub data IsUpper (upper slot n : ℕ) : Type 0 where
+  inode : upper ≡ 0 → (n ≤ 3) ⊎ (n ≡ 1022) ⊎ (n ≡ 2041) → IsUpper upper slot n
+  first_one : upper ≡ 3 → n ≡ 4 + slot → IsUpper upper slot n
+  second_one : upper ≡ 1022 → n ≡ 1023 + slot → IsUpper upper slot n
+  double_one : upper ≡ 2041 → n ≡ 2042 + slot * 1019 → IsUpper upper slot n
+  low_one : (z : ℕ) → upper ≡ 2042 + z * 1019 → n ≡ 2042 + z * 1019 + 1 + slot → IsUpper upper slot n
+
+by_inode : (slot n : ℕ) → slot < 5 → offset_below 0 slot ≡ Some n → (n ≤ 3) ⊎ (n ≡ 1022) ⊎ (n ≡ 2041)
+unfolding offset_below
+by_inode zero n small is = let same = same_Some 1 n is in inl (omega (arith, same))
+by_inode (suc zero) n small is = let same = same_Some 2 n is in inl (omega (arith, same))
+by_inode (suc (suc zero)) n small is = let same = same_Some 3 n is in inl (omega (arith, same))
+by_inode (suc (suc (suc zero))) n small is = inr (inl (sym (same_Some 1022 n is)))
+by_inode (suc (suc (suc (suc zero)))) n small is = inr (inr (sym (same_Some 2041 n is)))
+by_inode (suc (suc (suc (suc (suc k))))) n small is = absurd (omega arith)
+
+pub is_upper : (upper slot n : ℕ) → slot < nids_of_node upper → offset_below upper slot ≡ Some n → IsUpper upper slot n
+is_upper upper slot n small is =
+    elim (cases_eq upper 0) [
+      | inl e ↦ inode e (by_inode slot n (subst (λ m. slot < nids_of_node m) e small) (subst (λ m. offset_below m slot ≡ Some n) e is))
+      | inr other ↦
+          let at = is_below upper slot n other is in
+          elim (is_above upper at.kind) [
+            | first e names ↦ first_one e (sym at.is ∙ names slot)
+            | second e names ↦ second_one e (sym at.is ∙ names slot)
+            | double e names ↦ double_one e (sym at.is ∙ names slot)
+            | below z e names ↦ low_one z e (sym at.is ∙ names slot)
+          ]
+    ]
+
+-- the slot is one of a node's
+pub slot_within : (upper slot : ℕ) → slot < nids_of_node upper → slot < 1018
+slot_within upper slot small =
+    elim (cases_eq upper 0) [
+      | inl e ↦ let few : slot < 5 = subst (λ m. slot < nids_of_node m) e small in omega (arith, few)
+      | inr other ↦ subst (λ b. slot < cond b NIDS_AN_INODE node_slots) (ne_eqb upper 0 other) small
+    ]

@@ -1,11 +1,9 @@
 -- How many nodes and pages a tree has, counted row by row.
-use Rattle.std.proofs.Common.{◌≡◌, ◌≢◌, ◌⊎◌, inl, inr, ℕ, zero, suc, ◌+◌, ◌<◌, ◌≤◌, ◌==◌, Bool, true, false, cond, List, [], ◌∷◌, ◌++◌, length, map as map_list, refl, sym, ap, ◌∙◌, subst, arith}
+use Rattle.std.proofs.Common.{◌≡◌, ◌≢◌, ◌⊎◌, inl, inr, ℕ, zero, suc, ◌+◌, ◌≤◌, ◌==◌, Bool, true, false, cond, List, [], ◌∷◌, ◌++◌, length, map as map_list, refl, sym, ap, ◌∙◌, subst, arith}
 use Rattle.std.specs.Prelude.{Option, Some, None, IsSome}
-use Rattle.std.specs.List.{AllByRecursion, filter, flat_map, range_with_len, sum_by}
+use Rattle.std.specs.List.{filter, flat_map, range_with_len, sum_by}
 use Rattle.std.specs.Cmp.{nat_cmp_total}
 use Rattle.std.specs.FinMap as map
-use Rattle.std.specs.FinMap.{nat_cmp-IsAntisymmetric}
-use Rattle.std.specs.FinSet as set
 use Rattle.std.proofs.lemmas.Bool.{eq-eqb, eqb-true}
 use Rattle.std.proofs.lemmas.List.{length-map, length-append}
 use Rattle.std.proofs.lemmas.List.FromFn.{length-range_with_len}
@@ -56,10 +54,12 @@ with_first k ns = map_list (λ (n : ℕ). (k, n)) ns
 
 differ_with : (k : ℕ) (ns : List ℕ) → AllDiffer ns → AllDiffer (with_first k ns)
 differ_with k [] differ = tt
-differ_with k (n ∷ ns) differ =
-    (all_from (λ (y : ℕ × ℕ). (k, n) ≢ y) (with_first k ns) (λ y there same.
-    let made = from_map (λ (m : ℕ). (k, m)) y ns there in
-    of_all (λ m. n ≢ m) made.0 ns differ.0 made.1 (ap (λ (q : ℕ × ℕ). q.1) (same ∙ sym made.2))), differ_with k ns differ.1)
+differ_with k (n ∷ ns) differ = (
+  all_from (λ (y : ℕ × ℕ). (k, n) ≢ y) (with_first k ns) (λ y there same.
+      let made = from_map (λ (m : ℕ). (k, m)) y ns there in
+      of_all (λ m. n ≢ m) made.0 ns differ.0 made.1 (ap (λ (q : ℕ × ℕ). q.1) (same ∙ sym made.2))),
+  differ_with k ns differ.1,
+)
 
 module _ {X : Type 0} (numbers : ℕ × X → List ℕ) where
   -- the pairs of each key with the numbers of its entry

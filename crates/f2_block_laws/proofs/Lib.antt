@@ -9,4 +9,5 @@ pub mod Values
 pub mod Parts
 pub mod Listings
 pub mod Ways
+pub mod Needed
 pub mod Counts

@@ -1,6 +1,6 @@
 -- The dentries of a directory of a tree, packed into the blocks of its pages.
-use Rattle.std.proofs.Common.{◌≡◌, ◌≢◌, ◌⊎◌, inl, inr, ℕ, ◌<◌, ◌==◌, nat_le, ◌&&◌, true, List, [], ◌∷◌, length, map as map_list, refl, sym, ap, ◌∙◌, subst, arith}
-use Rattle.std.specs.Prelude.{Option, Some, None, All, IsSome}
+use Rattle.std.proofs.Common.{◌≡◌, ◌≢◌, ◌⊎◌, inl, inr, ℕ, ◌==◌, nat_le, ◌&&◌, true, List, [], ◌∷◌, length, map as map_list, refl, sym, ap, ◌∙◌, subst}
+use Rattle.std.specs.Prelude.{Some, None, All}
 use Rattle.std.specs.List.{flat_map, slice_get, list_all}
 use Rattle.std.specs.Ordering.{nat_cmp, eq_by_cmp, is_eq}
 use Rattle.std.specs.Cmp.{tied_itself, Equal-is}
@@ -32,7 +32,7 @@ use Rattle.f2_block_laws.specs.Directories.{AreDentries, HasShortInos, ArePacked
 use Rattle.f2_block_laws.proofs.Members.{IsIn, in_map, from_map, in_flat_map, in_filter, in_any, from_any, in_list, of_all}
 use Rattle.f2_block_laws.proofs.Differ.{rising_differ}
 use Rattle.f2_block_laws.proofs.Values.{value_in}
-use Rattle.f2_block_laws.proofs.Parts.{IsAt, in_blocks, from_blocks, StandsSomewhere, one_place}
+use Rattle.f2_block_laws.proofs.Parts.{IsAt, in_blocks, from_blocks, one_place}
 
 -- the name of a dentry
 name_of : Dentry → List ℕ

@@ -1,10 +1,10 @@
 -- A block that reads as a node is the block of that node.
-use Rattle.std.proofs.Common.{◌≡◌, ◌≢◌, ℕ, zero, suc, ◌+◌, ◌<◌, ◌≤◌, true, cond, List, [], ◌∷◌, length, get_or, Some, None, refl, ap, sym, subst, ◌∙◌, inl, inr, arith}
-use Rattle.std.specs.Prelude.{map as map_list, Option, slice_index_or}
+use Rattle.std.proofs.Common.{◌≡◌, ◌≢◌, ℕ, zero, suc, ◌+◌, ◌<◌, cond, List, length, get_or, Some, refl, ap, subst, ◌∙◌, inl, inr, arith}
+use Rattle.std.specs.Prelude.{map as map_list, slice_index_or}
 use Rattle.std.proofs.lemmas.Option.{same_Some}
 use Rattle.std.proofs.lemmas.Bool.{cases_eq, ne_eqb}
-use Rattle.f2_format.specs.Offsets.{inode_pages, node_slots, page_limit, direct_of, direct_slot}
-use Rattle.f2_format.specs.Inode.{InodeFields, inode_of, node_word, NIDS_AN_INODE, SIZE_LIMIT, NAME_BYTES}
+use Rattle.f2_format.specs.Offsets.{inode_pages, node_slots, direct_of, direct_slot}
+use Rattle.f2_format.specs.Inode.{InodeFields, inode_of, node_word, NIDS_AN_INODE}
 use Rattle.f2_model.specs.declared.rows.Row.{Row}
 use Rattle.f2_model.specs.declared.rows.Kind.{Kind}
 use Rattle.f2_model.specs.declared.rows.Kind.TheVariants.{Regular, Directory}
@@ -12,7 +12,7 @@ use Rattle.f2_node_block.specs.Inodes.{mode_of}
 use Rattle.f2_image.specs.Bases.{inode_kind, kind_of_mode}
 use Rattle.f2_image.specs.Reached.{offset_below, nids_of_node, nid_in}
 use Rattle.f2_image.specs.Faults.{IsForeign}
-use Rattle.f2_blocks.specs.Blocks.{Numbered, ReadsAs, address_of, nid_of, word_of, words_of, fields_of}
+use Rattle.f2_blocks.specs.Blocks.{Numbered, ReadsAs, address_of, nid_of, word_of, fields_of}
 use Rattle.f2_blocks.specs.Tree.{nodes_of_inode, node_at, first_page_of, node_limit}
 use Rattle.f2_blocks.specs.declared.rows.NodeRow.{NodeRow}
 use Rattle.f2_blocks.proofs.Shape.{in_slot}

@@ -1,15 +1,13 @@
 -- The nodes on the ways of some pages: each is named by the one above it.
-use Rattle.std.proofs.Common.{◌≡◌, ◌≢◌, ◌⊎◌, inl, inr, ℕ, zero, suc, ◌+◌, ◌-◌, ◌*◌, ◌%◌, ◌<◌, ◌==◌, nat_lt, cond, true, List, [], ◌∷◌, Some, None, refl, ap, sym, subst, ◌∙◌, arith}
+use Rattle.std.proofs.Common.{◌≡◌, ◌≢◌, ◌⊎◌, inl, inr, ℕ, zero, suc, ◌+◌, ◌-◌, ◌*◌, ◌%◌, ◌<◌, cond, true, List, [], ◌∷◌, Some, refl, ap, sym, subst, ◌∙◌, arith}
 use Rattle.std.specs.Prelude.{IsSome}
 use Rattle.std.specs.List.{flat_map}
-use Rattle.std.specs.Ordering.{nat_cmp, eq_by_cmp}
-use Rattle.std.specs.Cmp.{nat_cmp_total}
 use Rattle.std.specs.FinMap as map
 use Rattle.std.specs.FinSet as set
 use Rattle.std.proofs.lemmas.Bool.{ne_eqb}
 use Rattle.std.proofs.lemmas.Bool.Decides.{nat_tests}
 use Rattle.f2_format.specs.Inode.{NIDS_AN_INODE}
-use Rattle.f2_format.specs.Offsets.{node_slots, nth_indirect, direct_of, nodes_above, nodes_down_to, nodes_of_page, nodes_over}
+use Rattle.f2_format.specs.Offsets.{node_slots, direct_of, nodes_above, nodes_down_to, nodes_of_page, nodes_over}
 use Rattle.f2_image.specs.Reached.{offset_below, is_low_indirect, nids_of_node}
 use Rattle.f2_blocks.proofs.Shape.{way_of, none, one, first, second, double}
 use Rattle.f2_stored.specs.Places.{Places, IsNamedAbove}

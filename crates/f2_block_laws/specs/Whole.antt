@@ -33,6 +33,14 @@ DirectNodesAreThere =
     (places : Places) (ino : ℕ) (pages : List ℕ) → HasNodesOver places ino pages
     → (page offset : ℕ) → Contains pages page → direct_of page ≡ Some offset → IsSome (map.get places.nodes (ino, offset))
 
+-- and no file has fewer: one with its inode and each page's direct node, in which each node below the inode is named above, has all of them
+abbrev pub NodesAreNeeded : Type 0
+NodesAreNeeded =
+    (places : Places) (ino : ℕ) (pages : List ℕ) → IsSome (map.get places.nodes (ino, 0))
+    → ((page offset : ℕ) → Contains pages page → direct_of page ≡ Some offset → IsSome (map.get places.nodes (ino, offset)))
+    → ((offset : ℕ) → offset ≢ 0 → IsSome (map.get places.nodes (ino, offset)) → IsNamedAbove places ino offset)
+    → (offset : ℕ) → IsTrue (set.contains (nodes_over pages) offset) → IsSome (map.get places.nodes (ino, offset))
+
 -- the nodes that the places tell of a file
 abbrev pub nodes_at : Places → ℕ → List (ℕ × ℕ)
 nodes_at places ino = filter (λ at. at.0 == ino) (map.keys places.nodes)
