@@ -8,7 +8,8 @@ use Rattle.f2_model.specs.Tree.{Rows, ROOT}
 use Rattle.f2_image_laws.specs.Chained.{contents_at}
 use Rattle.f2_stored.specs.Places.{NodeAt, Places, nid_of, nid_at, IsNamedAbove, IsNodePlaced, HasNames, HasPlaces}
 use Rattle.f2_stored.specs.Trees.{IsNodeHere, IsPageHere, Unwritten, IsLiveAt}
-use Rattle.f2_place_laws.specs.Living.{IsElsewhere, with_node, node_written}
+use Rattle.f2_place_laws.specs.Living.{with_node, node_written}
+use Rattle.f2_stored.specs.Kept.{IsElsewhere}
 use Rattle.f2_place_laws.proofs.Alike.{node_here_alike, page_here_alike}
 use Rattle.f2_place_laws.proofs.Pairs.{pair, same_or_other, put_here, put_other, still_there, as_many, not_left}
 use Rattle.f2_place_laws.proofs.WrittenBlocks.{written_here, written_other}

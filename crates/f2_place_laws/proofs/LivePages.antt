@@ -14,7 +14,8 @@ use Rattle.f2_image.proofs.OneBase.{same_some}
 use Rattle.f2_image_laws.specs.Chained.{contents_at}
 use Rattle.f2_stored.specs.Places.{NodeAt, Places, page_at, IsNamedAbove, IsPagePlaced, IsPageBlock, HasNames, HasPlaces}
 use Rattle.f2_stored.specs.Trees.{IsNodeHere, IsPageHere, Unwritten, IsLiveAt}
-use Rattle.f2_place_laws.specs.Living.{IsElsewhere, teller_of, with_page, page_written}
+use Rattle.f2_place_laws.specs.Living.{teller_of, with_page, page_written}
+use Rattle.f2_stored.specs.Kept.{IsElsewhere}
 use Rattle.f2_place_laws.proofs.Alike.{node_here_alike, page_here_alike, page_block_alike}
 use Rattle.f2_place_laws.proofs.Options.{the_one}
 use Rattle.f2_place_laws.proofs.Pairs.{pair, same_or_other, put_here, put_other, still_there, was_there, as_many, not_put, not_left}

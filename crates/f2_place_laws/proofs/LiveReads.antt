@@ -11,7 +11,8 @@ use Rattle.f2_image_laws.specs.Chained.{contents_at}
 use Rattle.f2_stored.specs.Changes.{Wrote}
 use Rattle.f2_stored.specs.Places.{NodeAt, Places}
 use Rattle.f2_stored.specs.Trees.{IsNodeHere, IsPageHere, IsTableOf, IsTreeAt, Unwritten, IsLiveAt}
-use Rattle.f2_place_laws.specs.Living.{IsWrittenOut, HasWhatReadsGive, IsElsewhere}
+use Rattle.f2_place_laws.specs.Living.{IsWrittenOut, HasWhatReadsGive}
+use Rattle.f2_stored.specs.Kept.{IsElsewhere}
 use Rattle.f2_place_laws.proofs.WrittenBlocks.{wrote_other, flushed_reads}
 
 module _ (lists : Contents) (tree : Rows) (places : Places) (unwritten : Unwritten) where

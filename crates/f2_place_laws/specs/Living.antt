@@ -1,5 +1,5 @@
 -- The live tree of a running volume at its places.
-use Rattle.std.specs.Prelude.{◌≡◌, ◌≢◌, ℕ, ◌<◌, false, IsTrue, List, length, Option, Some, None, IsSome}
+use Rattle.std.specs.Prelude.{◌≡◌, ℕ, ◌<◌, false, IsTrue, List, length, Option, Some, None, IsSome}
 use Rattle.std.specs.FinMap as map
 use Rattle.std.specs.FinSet as set
 use Rattle.f2_format.specs.Offsets.{direct_of}
@@ -11,6 +11,7 @@ use Rattle.f2_image.specs.Images.{Image, block_at}
 use Rattle.f2_image.specs.Packs.{Checkpoint}
 use Rattle.f2_image_laws.specs.Chained.{contents_at}
 use Rattle.f2_stored.specs.Changes.{Wrote}
+use Rattle.f2_stored.specs.Kept.{IsElsewhere}
 use Rattle.f2_stored.specs.Places.{NodeAt, Places, IsPageBlock}
 use Rattle.f2_stored.specs.Trees.{IsTableOf, IsTreeAt, IsNodeHere, Unwritten, IsLiveAt}
 
@@ -33,11 +34,6 @@ WrittenTreesStand =
     HasWhatReadsGive lists image places →
     IsTableOf image point places →
     IsTreeAt image point tree places
-
--- no node and no page of a tree stands at an address
-pub record IsElsewhere (places : Places) (at : ℕ) : Type 0 where
-  pub nodes : (ino offset : ℕ) (node : NodeAt) → map.get places.nodes (ino, offset) ≡ Some node → node.at ≢ at
-  pub pages : (ino page other : ℕ) → map.get places.pages (ino, page) ≡ Some other → other ≢ at
 
 -- writes elsewhere, made or failed, and flushes keep a live tree
 abbrev pub WritesElsewhereKeep : Type 0

@@ -7,4 +7,6 @@ pub mod Logs
 pub mod Numbers
 pub mod Marks
 pub mod Changes
+pub mod Ties
 pub mod Stored
+pub mod Kept
