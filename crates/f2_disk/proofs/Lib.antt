@@ -4,3 +4,4 @@ pub mod MeterLaws
 pub mod PickLaws
 pub mod PlansLaws
 pub mod StoreLaws
+pub mod UsingLaws

@@ -7,3 +7,4 @@ pub mod Pick
 pub mod Plans
 pub mod Store
 pub mod Streams
+pub mod Using

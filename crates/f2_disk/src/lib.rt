@@ -6,13 +6,15 @@
 //! meet no more faults than were planned.
 //!
 //! `specs/Contents.antt` says what a disk holds, what a write and a flush change and what a crash may leave,
-//! `specs/Meter.antt` has the meter and `IsWithin`, `specs/Pick.antt` how a bench picks what a crash leaves, and
-//! `specs/Faults.antt` and `specs/Streams.antt` what counts of faults and streams mean.
+//! `specs/Meter.antt` has the meter and `IsWithin`, `specs/Using.antt` the words in which the layers above say what
+//! their calls of a disk do, `specs/Pick.antt` how a bench picks what a crash leaves, and `specs/Faults.antt` and
+//! `specs/Streams.antt` what counts of faults and streams mean.
 #![tactic(auto)]
 
 mod bench;
 mod calls;
 mod disk;
+mod faults;
 mod mem_bench;
 mod mem_disk;
 mod mem_sink;
@@ -27,6 +29,7 @@ mod sure_source;
 
 pub use bench::{Bench, CallKind};
 pub use disk::{Block, Disk, DiskFault};
+pub use faults::ReadFault;
 pub use mem_bench::MemBench;
 pub use mem_disk::MemDisk;
 pub use mem_sink::MemSink;
