@@ -16,4 +16,4 @@ mod reading;
 pub use choice::{NoCheckpoint, newest};
 pub use heads::{Head, write_head};
 pub use packs::{Pack, Side};
-pub use reading::{PackFault, read_pack};
+pub use reading::read_pack;

@@ -1,48 +1,17 @@
 //! Reading a pack.
 
-ghost use Rattle.std.specs.Prelude.{◌≡◌, ◌≤◌, ◌<◌, ◌↔◌, Err, IfOk, IfSome, IsTrue, OnErr, OnOk};
+ghost use Rattle.std.specs.Prelude.{◌≡◌, ◌≤◌, ◌<◌, ◌↔◌, IfOk, IfSome, IsTrue, OnErr, OnOk};
 ghost use Rattle.f2_disk.specs.Contents.{latest};
-ghost use Rattle.f2_disk.specs.Meter.{HasFailed, IsWithin};
+ghost use Rattle.f2_disk.specs.Meter.{HasFailed};
+ghost use Rattle.f2_disk.specs.Using.{IsCaused, OnlyReads};
 ghost use Rattle.f2_pack.specs.Packs.{IsPackOf, block_at};
 
 use crate::heads::{is_head, read_head};
 use crate::packs::{Pack, Side};
 use f2_bytes::Block;
-use f2_disk::Disk;
+use f2_disk::{Disk, DiskFault, ReadFault};
 use f2_layout::Geometry;
-use std::alloc::{AllocError, AllocFailed, Global};
-use thiserror::Error;
-
-/// Why a pack couldn't be read.
-#[derive(Clone, Copy, Debug, PartialEq, Eq, Error)]
-pub enum PackFault {
-    /// A read of the disk failed.
-    #[error("a checkpoint pack can't be read")]
-    Read,
-    /// Memory was refused.
-    #[error("out of memory")]
-    Memory,
-}
-
-impl From<AllocError> for PackFault {
-    ghost use Rattle.f2_pack.specs.declared.reading.PackFault.TheVariants.{Memory};
-
-    ghost from_gives = { λ _ fault. fault ≡ Memory };
-
-    fn from(_error: AllocError) -> PackFault {
-        PackFault::Memory
-    }
-}
-
-impl<T: Drop> From<AllocFailed<T>> for PackFault {
-    ghost use Rattle.f2_pack.specs.declared.reading.PackFault.TheVariants.{Memory};
-
-    ghost from_gives = { λ _ fault. fault ≡ Memory };
-
-    fn from(_error: AllocFailed<T>) -> PackFault {
-        PackFault::Memory
-    }
-}
+use std::alloc::Global;
 
 /// The pack on a side of the image, or `None` exactly where that isn't valid (validate_checkpoint of checkpoint.c).
 ///
@@ -53,15 +22,14 @@ pub fn read_pack<D: Disk>(
     disk: &mut D,
     g: &Geometry,
     side: Side,
-) -> Result<Option<Pack>, PackFault>
+) -> Result<Option<Pack>, ReadFault>
     requires { g.now.blocks ≤ (D.meter disk.old).blocks }
 
     ensures pack { IfOk result (λ found. IfSome (D.contents disk.old)
         (λ lists. IsPackOf g.now (latest lists) side found)) }
-    ensures kept { D.contents disk.new ≡ D.contents disk.old }
 
-    ensures cause { result ≡ Err PackFault.Read → HasFailed (D.meter disk.old) (D.meter disk.new) }
-    ensures within { IsWithin 0 (D.meter disk.old) (D.meter disk.new) }
+    ensures reads { OnlyReads D.contents D.meter disk.old disk.new }
+    ensures cause { IsCaused ReadFault.Read result D.meter disk.old disk.new }
 {
     let start = side.start();
     let blocks = g.blocks();
@@ -84,19 +52,14 @@ pub fn read_pack<D: Disk>(
 }
 
 /// Reads a block.
-fn read_block<D: Disk>(disk: &mut D, at: u32, into: &mut Block) -> Result<(), PackFault>
+fn read_block<D: Disk>(disk: &mut D, at: u32, into: &mut Block) -> Result<(), DiskFault>
     requires { at < (D.meter disk.old).blocks }
 
     ensures content { OnOk result (IfSome (D.contents disk.old) (λ lists. into.new ≡ block_at (latest lists) at)) }
-    ensures kept { D.contents disk.new ≡ D.contents disk.old }
-
+    ensures reads { OnlyReads D.contents D.meter disk.old disk.new }
     ensures cause { OnErr result (HasFailed (D.meter disk.old) (D.meter disk.new)) }
-    ensures within { IsWithin 0 (D.meter disk.old) (D.meter disk.new) }
 {
-    if disk.read(at, into).is_err() {
-        return Err(PackFault::Read);
-    }
-    Ok(())
+    disk.read(at, into)
 }
 
 /// Whether two blocks have the same bytes.

@@ -18,8 +18,8 @@ returns-clause-pack g c =
     let head = c.read_block.new.into in
     let tail = c.read_block-2.new.into in
     let summary = c.read_block-3.new.into in
-    let first = c.read_block.ensures.kept in
-    let second = c.read_block-2.ensures.kept in
+    let first = c.read_block.ensures.reads.kept in
+    let second = c.read_block-2.ensures.reads.kept in
     let same : head ≡ tail = sym c.deref-2.ensures ∙ c.is_same.ensures.0 c.if-not-is_same.false ∙ c.deref-3.ensures in
     let valid : IsPack c.args.g.now head head =
     subst (λ (h : List ℕ). IsPack c.args.g.now h h) c.deref.ensures (c.is_head.ensures.0 c.if-not-is_head.false) in
