@@ -1,10 +1,10 @@
 //! Packs that are written, read and chosen from.
 
 use f2_bytes::{Block, put32, seal};
-use f2_disk::{Bench, CallKind, Disk, MemBench};
+use f2_disk::{Bench, CallKind, Disk, MemBench, ReadFault};
 use f2_layout::Geometry;
 use f2_nat_block::Bitmap;
-use f2_pack::{Head, NoCheckpoint, Pack, PackFault, Side, newest, read_pack, write_head};
+use f2_pack::{Head, NoCheckpoint, Pack, Side, newest, read_pack, write_head};
 use std::alloc::Global;
 use std::test::Fail;
 
@@ -57,7 +57,7 @@ fn a_valid_pack_is_read(alloc: Global) -> Result<bool, Fail> {
     holds &= read_pack(alloc, &mut disk, &g, Side::A)?.is_none();
     disk.fail_at(CallKind::Read, 1);
     let failed = read_pack(alloc, &mut disk, &g, Side::B);
-    holds &= matches!(failed, Err(PackFault::Read));
+    holds &= matches!(failed, Err(ReadFault::Read));
     Ok(holds)
 }
 

@@ -12,8 +12,6 @@
 //! The definitions stand in `specs/Kept.antt`.
 #![tactic(auto)]
 
-mod faults;
 mod store;
 
-pub use faults::PageFault;
 pub use store::PageStore;

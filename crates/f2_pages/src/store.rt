@@ -1,13 +1,11 @@
 //! The store of dirty and clean pages.
 
-ghost use Rattle.std.specs.Prelude.{◌≡◌, ◌-◌, ◌<◌, ◌≤◌, ◌⊎◌, None, Some, max, is_some, if◌then◌else◌, option_copied, length, IsOk, IsSome, IfOk, IfErr, OnOk, OnErr};
+ghost use Rattle.std.specs.Prelude.{◌≡◌, ◌-◌, ◌<◌, ◌≤◌, ◌⊎◌, None, Some, max, is_some, if◌then◌else◌, option_copied, length, IsOk, IsSome, IfOk, OnOk, OnErr};
 ghost use Rattle.std.specs.FinMap as map;
-ghost use Rattle.f2_disk.specs.Meter.{HasFailed, IsWithin};
+ghost use Rattle.f2_disk.specs.Using.{IsCaused, OnlyReads};
 ghost use Rattle.f2_pages.specs.Kept.{page_cmp, IsCurrent, IsRead, MayAdd};
-ghost use Rattle.f2_pages.specs.declared.faults.PageFault.TheVariants.{Read};
 
-use crate::faults::PageFault;
-use f2_disk::{Block, Disk};
+use f2_disk::{Block, Disk, ReadFault};
 use lru::LruCache;
 use std::alloc::{AllocError, Global};
 use std::collections::HashMap;
@@ -65,13 +63,12 @@ impl PageStore {
         page: (u32, u32),
         at: u32,
         into: &mut Block,
-    ) -> Result<(), PageFault>
+    ) -> Result<(), ReadFault>
         requires at { at < (D.meter disk.old).blocks }
         requires current { IsCurrent self.old page (D.contents disk.old) at }
 
         ensures content { OnOk result (IsRead self.old page (D.contents disk.old) at into.new) }
         ensures kept { IsSome (map.get self.old.dirty page) ⊎ IsSome (map.get self.old.clean page) → IsOk result × (disk.new ≡ disk.old) }
-        ensures cause { IfErr result (λ fault. fault ≡ Read → HasFailed (D.meter disk.old) (D.meter disk.new)) }
 
         ensures store { self.new ≡ record self.old { clean = self.new.clean } }
         ensures clean { OnOk result (map.get self.old.dirty page ≡ None → map.get self.new.clean page ≡ Some into.new) }
@@ -80,8 +77,8 @@ impl PageStore {
         ensures bounded { map.len self.new.clean ≤ self.new.room }
         ensures err { OnErr result (self.new ≡ self.old) }
 
-        ensures contents { D.contents disk.new ≡ D.contents disk.old }
-        ensures within { IsWithin 0 (D.meter disk.old) (D.meter disk.new) }
+        ensures reads { OnlyReads D.contents D.meter disk.old disk.new }
+        ensures cause { IsCaused ReadFault.Read result D.meter disk.old disk.new }
     {
         if let Some(block) = self.dirty.get(&page) {
             *into = **block;

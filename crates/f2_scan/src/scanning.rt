@@ -1,8 +1,9 @@
 //! The walk along the chain.
 
-ghost use Rattle.std.specs.Prelude.{◌≡◌, ◌≢◌, ◌≤◌, ◌<◌, ◌⊎◌, ◌↔◌, Err, IfOk, IfErr, IfSome, IsTrue, OnOk};
+ghost use Rattle.std.specs.Prelude.{◌≡◌, ◌≢◌, ◌≤◌, ◌<◌, IfOk, IfErr, IfSome, IsTrue, OnErr, OnOk};
 ghost use Rattle.f2_disk.specs.Contents.{latest};
-ghost use Rattle.f2_disk.specs.Meter.{HasFailed, IsWithin};
+ghost use Rattle.f2_disk.specs.Meter.{HasFailed};
+ghost use Rattle.f2_disk.specs.Using.{IsCaused, OnlyReads};
 ghost use Rattle.f2_format.specs.Footer.{footer_next};
 ghost use Rattle.f2_format.specs.Geometry.{is_in_node};
 ghost use Rattle.f2_image.specs.Images.{block_at};
@@ -10,7 +11,7 @@ ghost use Rattle.f2_scan.specs.Logs.{IsBlockFault, IsFault, IsOutside, IsRight, 
 
 use crate::faults::ScanFault;
 use crate::logs::{Chain, LogBlock};
-use f2_disk::{Block, Disk};
+use f2_disk::{Block, Disk, DiskFault};
 use f2_layout::Geometry;
 use f2_node_block::read_inode;
 use std::alloc::Global;
@@ -39,9 +40,8 @@ pub fn scan<D: Disk>(
     ensures fault { IfErr result (λ fault. IfSome (D.contents disk.old)
         (λ lists. IsFault g.now (log_from g.now (latest lists) version start) fault)) }
 
-    ensures cause { result ≡ Err ScanFault.Read → HasFailed (D.meter disk.old) (D.meter disk.new) }
-    ensures kept { D.contents disk.new ≡ D.contents disk.old }
-    ensures within { IsWithin 0 (D.meter disk.old) (D.meter disk.new) }
+    ensures reads { OnlyReads D.contents D.meter disk.old disk.new }
+    ensures cause { IsCaused ScanFault.Read result D.meter disk.old disk.new }
 {
     let most = g.cn();
     let mut log = Vec::new(alloc);
@@ -73,9 +73,8 @@ fn read_logged<D: Disk>(
     ensures place { IfOk result (λ found. IfSome found (λ logged. (logged.at ≡ at) × (at ≢ 0))) }
     ensures fault { IfErr result IsOutside }
 
-    ensures cause { result ≡ Err ScanFault.Read → HasFailed (D.meter disk.old) (D.meter disk.new) }
-    ensures kept { D.contents disk.new ≡ D.contents disk.old }
-    ensures within { IsWithin 0 (D.meter disk.old) (D.meter disk.new) }
+    ensures reads { OnlyReads D.contents D.meter disk.old disk.new }
+    ensures cause { IsCaused ScanFault.Read result D.meter disk.old disk.new }
 {
     if at == 0 {
         return Ok(None);
@@ -89,18 +88,14 @@ fn read_logged<D: Disk>(
 }
 
 /// Reads a block.
-fn read_block<D: Disk>(disk: &mut D, at: u32, into: &mut Block) -> Result<(), ScanFault>
+fn read_block<D: Disk>(disk: &mut D, at: u32, into: &mut Block) -> Result<(), DiskFault>
     requires { at < (D.meter disk.old).blocks }
 
     ensures content { OnOk result (IfSome (D.contents disk.old) (λ lists. into.new ≡ block_at (latest lists) at)) }
-    ensures fault { IfErr result (λ fault. (fault ≡ ScanFault.Read) × HasFailed (D.meter disk.old) (D.meter disk.new)) }
-    ensures kept { D.contents disk.new ≡ D.contents disk.old }
-    ensures within { IsWithin 0 (D.meter disk.old) (D.meter disk.new) }
+    ensures reads { OnlyReads D.contents D.meter disk.old disk.new }
+    ensures cause { OnErr result (HasFailed (D.meter disk.old) (D.meter disk.new)) }
 {
-    if disk.read(at, into).is_err() {
-        return Err(ScanFault::Read);
-    }
-    Ok(())
+    disk.read(at, into)
 }
 
 /// The address that a block of the log names as the next, 0 or one in the node zone, where recovery takes the block.

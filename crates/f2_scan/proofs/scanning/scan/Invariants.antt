@@ -2,7 +2,7 @@ use Rattle.std.proofs.Common.{◌≡◌, ◌≢◌, length}
 use Rattle.std.specs.Prelude.{All, IsTrue}
 use Rattle.std.specs.Option.{IfSome}
 use Rattle.f2_disk.specs.Contents.{latest}
-use Rattle.f2_disk.specs.Meter.{IsWithin}
+use Rattle.f2_disk.specs.Using.{OnlyReads}
 use Rattle.f2_format.specs.Geometry.{is_in_node}
 use Rattle.f2_scan.specs.Logs.{IsRight}
 use Rattle.f2_scan.proofs.Walks.{IsWalked}
@@ -10,8 +10,7 @@ use Rattle.f2_scan.proofs.scanning.scan.Given as goal
 
 abbrev pub invariant-loop : goal.invariant-loop
 invariant-loop g l = record {
-  kept : g.D.Disk.contents l.disk ≡ g.D.Disk.contents l.initial.disk;
-  calls : IsWithin 0 (g.D.Disk.meter l.initial.disk) (g.D.Disk.meter l.disk);
+  reads : OnlyReads g.D.Disk.contents g.D.Disk.meter l.initial.disk l.disk;
   count : length l.log.items ≡ l.counter;
   next : l.at ≢ 0 → IsTrue (is_in_node l.g l.at);
   within : All (λ logged. IsTrue (is_in_node l.g logged.at)) l.log.items;
