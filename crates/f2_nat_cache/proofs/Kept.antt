@@ -92,6 +92,18 @@ apart_more dirty old new journal k v none more apart nid there = at (map.get new
       | inr here ↦ ap (λ n. pending dirty journal n) here.0 ∙ none
     ]
 
+-- nids below a limit, and one more
+pub below_more : (limit : ℕ) (old new : Entries) (k : ℕ) (v : NatEntry) → k < limit → MayAdd k v old new → ((nid : ℕ) → IsSome (map.get old nid) → nid < limit)
+    → (nid : ℕ) → IsSome (map.get new nid) → nid < limit
+below_more limit old new k v low more below nid there = at (map.get new nid) refl there
+  where
+    at : (o : Option NatEntry) → map.get new nid ≡ o → IsSome o → nid < limit
+    at None e s = let wrong : ◌≡◌ false true = s in cc
+    at (Some entry) e s = elim (more nid entry e) [
+      | inl before ↦ below nid (ap is_some before)
+      | inr here ↦ subst (λ (n : ℕ). n < limit) (sym here.0) low
+    ]
+
 -- ---- a block that is held
 
 -- a block more that was read

@@ -1,8 +1,9 @@
 //! The cache of the node address table.
 
-ghost use Rattle.std.specs.Prelude.{◌≡◌, ℕ, ◌-◌, ◌<◌, ◌≤◌, None, Some, max, replicate, length, slice_set, Option, IsOk, IsSome, IfSome, IfOk, IfErr, OnOk, OnErr};
+ghost use Rattle.std.specs.Prelude.{◌≡◌, ℕ, ◌-◌, ◌<◌, ◌≤◌, None, Some, max, replicate, length, slice_set, Option, IsOk, IsSome, IfSome, IfOk, OnOk, OnErr};
 ghost use Rattle.std.specs.FinMap as map;
-ghost use Rattle.f2_disk.specs.Meter.{HasFailed, IsWithin};
+ghost use Rattle.f2_disk.specs.Meter.{HasFailed};
+ghost use Rattle.f2_disk.specs.Using.{IsCaused, OnlyReads};
 ghost use Rattle.f2_disk.specs.Contents.{Contents, list_at, last_of};
 ghost use Rattle.f2_format.specs.Geometry.{ENTRIES_A_NAT_BLOCK, nid_limit};
 ghost use Rattle.f2_format.specs.Nat.{nat_entry};
@@ -10,14 +11,12 @@ ghost use Rattle.f2_nat_block.specs.NatEntry.{entry_of};
 ghost use Rattle.f2_nat_cache.specs.Entries.{EachOnce, MayAdd};
 ghost use Rattle.f2_nat_cache.specs.Plan.{bitmap_after, dirty_sets, journal_after, needed as needed_of, is_pending_block, pending_blocks as blocks_of, plan_of};
 ghost use Rattle.f2_nat_cache.specs.Table.{IsKept, known as known_of, entry_at, held_block, nid_at, with_pending};
-ghost use Rattle.f2_nat_cache.specs.declared.faults.CacheFault.TheVariants.{Read};
 
 use crate::clean::CleanEntries;
 use crate::dirty::DirtyEntries;
-use crate::faults::CacheFault;
 use crate::journal::KnownJournal;
 use crate::pending::{merged, pending, write_pending};
-use f2_disk::{Block, Disk};
+use f2_disk::{Block, Disk, DiskFault, ReadFault};
 use f2_layout::Geometry;
 use f2_nat_block::{Bitmap, NatEntry, entry, locate};
 use f2_nat_journal::Journal;
@@ -93,7 +92,7 @@ impl Cache {
     /// The entry of a nid. The disk is read only where no part of the table has it.
     ///
     /// An error leaves the cache as it was.
-    pub fn get<D: Disk>(&mut self, disk: &mut D, nid: u32) -> Result<NatEntry, CacheFault>
+    pub fn get<D: Disk>(&mut self, disk: &mut D, nid: u32) -> Result<NatEntry, ReadFault>
         requires nid { nid < nid_limit self.old.extent }
         requires device { self.old.extent.blocks ≤ (D.meter disk.old).blocks }
         requires kept { IfSome (D.contents disk.old) (IsKept self.old) }
@@ -101,7 +100,6 @@ impl Cache {
         ensures entry { IfOk result (λ e. IfSome (D.contents disk.old) (λ lists. e ≡ entry_at self.old lists nid)) }
         ensures known { IfSome (known_of self.old nid) (λ e. (result ≡ Ok e) × (disk.new ≡ disk.old) × (self.new ≡ self.old)) }
         ensures clean { known_of self.old nid ≡ None → IfSome (map.get self.old.clean nid) (λ e. (result ≡ Ok e) × (disk.new ≡ disk.old) × (self.new ≡ self.old)) }
-        ensures cause { IfErr result (λ fault. fault ≡ Read → HasFailed (D.meter disk.old) (D.meter disk.new)) }
 
         // What is read from the disk is kept as the nid's clean entry, and nothing else changes.
         ensures table { self.new ≡ record self.old { clean = self.new.clean } }
@@ -111,8 +109,8 @@ impl Cache {
         ensures still_kept { IfSome (D.contents disk.new) (IsKept self.new) }
         ensures err { OnErr result (self.new ≡ self.old) }
 
-        ensures contents { D.contents disk.new ≡ D.contents disk.old }
-        ensures within { IsWithin 0 (D.meter disk.old) (D.meter disk.new) }
+        ensures reads { OnlyReads D.contents D.meter disk.old disk.new }
+        ensures cause { IsCaused ReadFault.Read result D.meter disk.old disk.new }
     {
         if let Some(e) = self.known(nid) {
             return Ok(e);
@@ -144,7 +142,7 @@ impl Cache {
     /// Holds a block of the table from now on. A block that is held isn't read again.
     ///
     /// An error leaves the cache as it was.
-    pub fn hold<D: Disk>(&mut self, disk: &mut D, block: u32) -> Result<(), CacheFault>
+    pub fn hold<D: Disk>(&mut self, disk: &mut D, block: u32) -> Result<(), ReadFault>
         requires block { block < self.old.extent.nat }
         requires device { self.old.extent.blocks ≤ (D.meter disk.old).blocks }
         requires kept { IfSome (D.contents disk.old) (IsKept self.old) }
@@ -152,14 +150,13 @@ impl Cache {
         ensures held { OnOk result (IsSome (held_block self.new block)) }
         ensures others { OnOk result (self.new ≡ record self.old { held = slice_set self.old.held block (held_block self.new block) }) }
         ensures once { IsSome (held_block self.old block) → IsOk result × (disk.new ≡ disk.old) × (self.new ≡ self.old) }
-        ensures cause { IfErr result (λ fault. fault ≡ Read → HasFailed (D.meter disk.old) (D.meter disk.new)) }
 
         // What is held is the copy that counts, where the disk tells it.
         ensures still_kept { IfSome (D.contents disk.new) (IsKept self.new) }
         ensures err { OnErr result (self.new ≡ self.old) }
 
-        ensures contents { D.contents disk.new ≡ D.contents disk.old }
-        ensures within { IsWithin 0 (D.meter disk.old) (D.meter disk.new) }
+        ensures reads { OnlyReads D.contents D.meter disk.old disk.new }
+        ensures cause { IsCaused ReadFault.Read result D.meter disk.old disk.new }
     {
         if self.held[block as usize].is_some() {
             return Ok(());
@@ -318,14 +315,13 @@ impl Cache {
 }
 
 /// The entry at a place of the block at an address.
-fn read_entry<D: Disk>(disk: &mut D, at: u32, place: u16) -> Result<NatEntry, CacheFault>
+fn read_entry<D: Disk>(disk: &mut D, at: u32, place: u16) -> Result<NatEntry, DiskFault>
     requires at { at < (D.meter disk.old).blocks }
     requires place { place < ENTRIES_A_NAT_BLOCK }
 
     ensures entry { IfOk result (λ e. IfSome (D.contents disk.old) (λ lists. e ≡ entry_of (nat_entry (last_of (list_at lists at)) place))) }
-    ensures cause { IfErr result (λ fault. fault ≡ Read → HasFailed (D.meter disk.old) (D.meter disk.new)) }
-    ensures contents { D.contents disk.new ≡ D.contents disk.old }
-    ensures within { IsWithin 0 (D.meter disk.old) (D.meter disk.new) }
+    ensures reads { OnlyReads D.contents D.meter disk.old disk.new }
+    ensures cause { OnErr result (HasFailed (D.meter disk.old) (D.meter disk.new)) }
 {
     let mut block = [0; 4096];
     disk.read(at, &mut block)?;

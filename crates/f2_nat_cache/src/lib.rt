@@ -20,9 +20,7 @@ mod cache;
 mod clean;
 mod commits;
 mod dirty;
-mod faults;
 mod journal;
 mod pending;
 
 pub use cache::{Cache, CpNat};
-pub use faults::CacheFault;
