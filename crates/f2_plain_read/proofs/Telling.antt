@@ -5,9 +5,10 @@ use Rattle.std.specs.Option.{IfSome}
 use Rattle.std.specs.Result.{IsErrAnd}
 use Rattle.f2_disk.specs.Contents.{Contents, latest}
 use Rattle.f2_disk.specs.Meter.{Meter}
-use Rattle.f2_disk.proofs.MeterLaws.{within_none, within_then}
+use Rattle.f2_disk.specs.Using.{OnlyReads}
+use Rattle.f2_disk.proofs.UsingLaws.{reads_then}
 use Rattle.f2_image.specs.Images.{Image}
-use Rattle.f2_plain_read.specs.Told.{Tells, OnlyReads}
+use Rattle.f2_plain_read.specs.Told.{Tells}
 
 -- what holds where contents are told holds of the image that is told
 pub told : (held : Option Contents) (P : Image → Type 0) → IfSome held (λ lists. P (latest lists)) → (image : Image) → Tells held image → P image
@@ -28,13 +29,6 @@ telling (Some lists) P h = h (latest lists) (lists, refl, refl)
 -- what is told stays told
 pub tells_on : (held now : Option Contents) (image : Image) → now ≡ held → Tells held image → Tells now image
 tells_on held now image same t = (t.0, same ∙ t.1, t.2)
-
--- no call, and one run of calls after another
-pub reads_none : (held : Option Contents) (old : Meter) → OnlyReads held old held old
-reads_none held old = record { kept = refl; within = within_none old }
-
-pub reads_then : (a b c : Option Contents) (old mid new : Meter) → OnlyReads a old b mid → OnlyReads b mid c new → OnlyReads a old c new
-reads_then a b c old mid new first second = record { kept = second.kept ∙ first.kept; within = within_then 0 0 old mid new first.within second.within }
 
 -- options that are equal
 pub none_is : {X : Type 0} (a b : Option X) → false ≡ is_some a → a ≡ b → b ≡ None
@@ -70,10 +64,8 @@ fault_came {X} {Y} {E} (Err e) fault other is h = ap Err (sym is ∙ same e othe
 
 -- runs of calls on values of one type
 module _ {D : Type 0} (contents : D → Option Contents) (meter : D → Meter) where
-  pub reads_to : (old mid new same : D) → same ≡ new → OnlyReads (contents old) (meter old) (contents mid) (meter mid) → OnlyReads (contents mid) (meter mid) (contents new) (meter new)
-      → OnlyReads (contents old) (meter old) (contents same) (meter same)
-  reads_to old mid new same is first second =
-      subst (λ (d : D). OnlyReads (contents old) (meter old) (contents d) (meter d)) (sym is) (reads_then (contents old) (contents mid) (contents new) (meter old) (meter mid) (meter new) first second)
+  pub reads_to : (old mid new same : D) → same ≡ new → OnlyReads contents meter old mid → OnlyReads contents meter mid new → OnlyReads contents meter old same
+  reads_to old mid new same is first second = subst (OnlyReads contents meter old) (sym is) (reads_then contents meter old mid new first second)
 
-  pub reads_as : (old mid same : D) → same ≡ mid → OnlyReads (contents old) (meter old) (contents mid) (meter mid) → OnlyReads (contents old) (meter old) (contents same) (meter same)
-  reads_as old mid same is first = subst (λ (d : D). OnlyReads (contents old) (meter old) (contents d) (meter d)) (sym is) first
+  pub reads_as : (old mid same : D) → same ≡ mid → OnlyReads contents meter old mid → OnlyReads contents meter old same
+  reads_as old mid same is first = subst (OnlyReads contents meter old) (sym is) first

@@ -1,9 +1,8 @@
--- Faults of a pack as faults of a read.
-use Rattle.f2_pack.specs.declared.reading.PackFault.{PackFault}
-use Rattle.f2_pack.specs.declared.reading.PackFault.TheVariants as pack
+-- Faults of a disk's reads as faults of reading a tree.
+use Rattle.f2_disk.specs.declared.faults.ReadFault as disk
 use Rattle.f2_plain_read.specs.declared.faults.ReadFault.{ReadFault}
 use Rattle.f2_plain_read.specs.declared.faults.ReadFault.TheVariants.{Read, Memory}
 
-abbrev pub fault_of : PackFault → ReadFault
-fault_of pack.Read = Read
-fault_of pack.Memory = Memory
+abbrev pub fault_of : disk.ReadFault → ReadFault
+fault_of disk.TheVariants.Read = Read
+fault_of disk.TheVariants.Memory = Memory

@@ -1,14 +1,14 @@
 //! A tree, built from the files of an image.
 ghost use Rattle.std.specs.Prelude.{◌≡◌, ◌≢◌, ◌≤◌, ◌+◌, ◌<◌, ◌^◌, ℕ, length, Err, IfOk, OnOk, Option};
 ghost use Rattle.std.specs.FinMap as map;
-ghost use Rattle.f2_disk.specs.Meter.{HasFailed};
+ghost use Rattle.f2_disk.specs.Using.{IsCaused, OnlyReads};
 ghost use Rattle.f2_image.specs.Images.{Image};
 ghost use Rattle.f2_model.specs.Tree.{Rows};
 ghost use Rattle.f2_model.specs.declared.rows.Row.{Row as TreeRow};
 ghost use Rattle.f2_format.specs.Geometry.{Extent, nid_limit};
 ghost use Rattle.f2_laid.specs.Laid.{PlaceMap, IsStorable, at_of};
 ghost use Rattle.f2_laid.specs.declared.stored.Stored.{Stored};
-ghost use Rattle.f2_plain_read.specs.Told.{Tells, OnlyReads};
+ghost use Rattle.f2_plain_read.specs.Told.{Tells};
 ghost use Rattle.f2_plain_read.specs.Reads.{IsLaidOut};
 ghost use Rattle.f2_plain_read.specs.Building.{IsBuilt, AreBelow, IsTableFor, TakesContent, IsTakable, IsNamedBy};
 
@@ -44,8 +44,8 @@ pub(crate) fn read_files<D: Disk>(
     ensures keys { IfOk result (λ built. AreBelow (length table.now) built.places) }
     ensures bad { result ≡ Err ReadFault.Bad → (image : Image) → Tells (D.contents disk.old) image → (tree : Rows) (stored : Stored)
         → IsLaidOut image tree stored → ¬ (IsTableFor table.now stored.places) }
-    ensures reads { OnlyReads (D.contents disk.old) (D.meter disk.old) (D.contents disk.new) (D.meter disk.new) }
-    ensures cause { result ≡ Err ReadFault.Read → HasFailed (D.meter disk.old) (D.meter disk.new) }
+    ensures reads { OnlyReads D.contents D.meter disk.old disk.new }
+    ensures cause { IsCaused ReadFault.Read result D.meter disk.old disk.new }
 {
     let mut built = Built {
         rows: Tree::new(alloc),
@@ -74,8 +74,8 @@ fn add_file<D: Disk>(
     ensures keys { OnOk result ((limit : ℕ) → ino < limit → AreBelow limit built.old.places → AreBelow limit built.new.places) }
     ensures bad { result ≡ Err ReadFault.Bad → (image : Image) → Tells (D.contents disk.old) image → (tree : Rows) (stored : Stored) → IsLaidOut image tree stored
         → at ≡ at_of (map.get stored.places ino) → ¬ (IsBuilt tree stored.places ino built.old) }
-    ensures reads { OnlyReads (D.contents disk.old) (D.meter disk.old) (D.contents disk.new) (D.meter disk.new) }
-    ensures cause { result ≡ Err ReadFault.Read → HasFailed (D.meter disk.old) (D.meter disk.new) }
+    ensures reads { OnlyReads D.contents D.meter disk.old disk.new }
+    ensures cause { IsCaused ReadFault.Read result D.meter disk.old disk.new }
 {
     let file = read_file(alloc, disk, ino, at)?;
     let pages = read_pages(alloc, disk, &file.place)?;

@@ -2,7 +2,6 @@
 ghost use Rattle.std.specs.Prelude.{◌≡◌};
 ghost use Rattle.f2_plain_read.specs.Faults.{fault_of};
 
-use f2_pack::PackFault;
 use std::alloc::{AllocError, AllocFailed};
 use thiserror::Error;
 
@@ -40,15 +39,13 @@ impl<T: Drop> From<AllocFailed<T>> for ReadFault {
     }
 }
 
-impl From<PackFault> for ReadFault {
-    ghost use Rattle.f2_plain_read.specs.Faults.{fault_of};
-
+impl From<f2_disk::ReadFault> for ReadFault {
     ghost from_gives = { λ error fault. fault ≡ fault_of error };
 
-    fn from(error: PackFault) -> ReadFault {
+    fn from(error: f2_disk::ReadFault) -> ReadFault {
         match error {
-            PackFault::Read => ReadFault::Read,
-            PackFault::Memory => ReadFault::Memory,
+            f2_disk::ReadFault::Read => ReadFault::Read,
+            f2_disk::ReadFault::Memory => ReadFault::Memory,
         }
     }
 }

@@ -1,11 +1,11 @@
 //! The inodes of files and their pages.
 ghost use Rattle.std.specs.Prelude.{◌≡◌, ◌≤◌, ◌↔◌, length, slice_index, EachIndex, Err, IfOk, IfSome, IfNone, IsTrue};
-ghost use Rattle.f2_disk.specs.Meter.{HasFailed};
+ghost use Rattle.f2_disk.specs.Using.{IsCaused, OnlyReads};
 ghost use Rattle.f2_image.specs.Images.{Image, block_at};
 ghost use Rattle.f2_model.specs.declared.rows.Row.{Row};
 ghost use Rattle.f2_laid.specs.Laid.{IsInodeOf};
 ghost use Rattle.f2_laid.specs.declared.places.Place.{Place as LaidPlace};
-ghost use Rattle.f2_plain_read.specs.Told.{Tells, OnlyReads};
+ghost use Rattle.f2_plain_read.specs.Told.{Tells};
 ghost use Rattle.f2_plain_read.specs.Files.{IsFirstNode, IsFileIn, ArePagesAt, ReachesPast};
 
 use crate::blocks::read_block;
@@ -36,8 +36,8 @@ pub(crate) fn read_file<D: Disk>(
         → row.ino ≡ ino → place.at ≡ at → IsInodeOf row place (block_at image at) → IsFileIn (block_at image at) row place file) }
     ensures bad { result ≡ Err ReadFault.Bad → (image : Image) → Tells (D.contents disk.old) image → (row : Row) (place : LaidPlace)
         → row.ino ≡ ino → IsInodeOf row place (block_at image at) → length image ≤ at }
-    ensures reads { OnlyReads (D.contents disk.old) (D.meter disk.old) (D.contents disk.new) (D.meter disk.new) }
-    ensures cause { result ≡ Err ReadFault.Read → HasFailed (D.meter disk.old) (D.meter disk.new) }
+    ensures reads { OnlyReads D.contents D.meter disk.old disk.new }
+    ensures cause { IsCaused ReadFault.Read result D.meter disk.old disk.new }
 {
     let mut block = Box::new(alloc, [0; 4096])?;
     read_block(disk, at, &mut block)?;
@@ -91,8 +91,8 @@ pub(crate) fn read_pages<D: Disk>(
 ) -> Result<Pages, ReadFault>
     ensures pages { IfOk result (λ pages. (image : Image) → Tells (D.contents disk.old) image → ArePagesAt image place.now pages) }
     ensures bad { result ≡ Err ReadFault.Bad → (image : Image) → Tells (D.contents disk.old) image → ReachesPast image place.now }
-    ensures reads { OnlyReads (D.contents disk.old) (D.meter disk.old) (D.contents disk.new) (D.meter disk.new) }
-    ensures cause { result ≡ Err ReadFault.Read → HasFailed (D.meter disk.old) (D.meter disk.new) }
+    ensures reads { OnlyReads D.contents D.meter disk.old disk.new }
+    ensures cause { IsCaused ReadFault.Read result D.meter disk.old disk.new }
 {
     let mut pages = Pages::new(alloc);
     let mut block = Box::new(alloc, [0; 4096])?;

@@ -1,6 +1,6 @@
 //! The sizes of an image, and its newest checkpoint.
 ghost use Rattle.std.specs.Prelude.{◌≡◌, ◌≤◌, ◌<◌, length, Err, IfOk, IfSome, IfNone, OnOk, IsTrue, ◌↔◌};
-ghost use Rattle.f2_disk.specs.Meter.{HasFailed};
+ghost use Rattle.f2_disk.specs.Using.{IsCaused, OnlyReads};
 ghost use Rattle.f2_format.specs.Geometry.{Extent};
 ghost use Rattle.f2_format.specs.Superblock.{super_extent};
 ghost use Rattle.f2_image.specs.Images.{Image, block_at, IsSized, IsRightCopy};
@@ -9,7 +9,7 @@ ghost use Rattle.f2_image.specs.Faults.{MOST_VERSION as most_version};
 ghost use Rattle.f2_model.specs.Tree.{Rows};
 ghost use Rattle.f2_laid.specs.Laid.{IsLaid};
 ghost use Rattle.f2_laid.specs.declared.stored.Stored.{Stored};
-ghost use Rattle.f2_plain_read.specs.Told.{Tells, OnlyReads};
+ghost use Rattle.f2_plain_read.specs.Told.{Tells};
 ghost use Rattle.f2_plain_read.specs.Points.{IsNewestPack, IsPointOf, IsPlain, HaveOneCopy};
 
 use crate::blocks::read_block;
@@ -45,8 +45,8 @@ pub(crate) fn read_point<D: Disk>(alloc: Global, disk: &mut D) -> Result<Point, 
     ensures version { IfOk result (λ point. point.version ≤ most_version) }
     ensures bad { result ≡ Err ReadFault.Bad → (image : Image) → Tells (D.contents disk.old) image
         → (tree : Rows) (stored : Stored) → stored.version ≤ most_version → ¬ (IsLaid image tree stored) }
-    ensures reads { OnlyReads (D.contents disk.old) (D.meter disk.old) (D.contents disk.new) (D.meter disk.new) }
-    ensures cause { result ≡ Err ReadFault.Read → HasFailed (D.meter disk.old) (D.meter disk.new) }
+    ensures reads { OnlyReads D.contents D.meter disk.old disk.new }
+    ensures cause { IsCaused ReadFault.Read result D.meter disk.old disk.new }
 {
     let geometry = read_geometry(alloc, disk)?;
     let (pack, side) = read_newest(alloc, disk, &geometry)?;
@@ -67,8 +67,8 @@ fn read_geometry<D: Disk>(alloc: Global, disk: &mut D) -> Result<Geometry, ReadF
     ensures sized { IfOk result (λ geometry. (image : Image) → Tells (D.contents disk.old) image → IsSized image geometry) }
     ensures fits { IfOk result (λ geometry. geometry.blocks ≤ (D.meter disk.old).blocks) }
     ensures bad { result ≡ Err ReadFault.Bad → (image : Image) → Tells (D.contents disk.old) image → (extent : Extent) → ¬ (IsSized image extent) }
-    ensures reads { OnlyReads (D.contents disk.old) (D.meter disk.old) (D.contents disk.new) (D.meter disk.new) }
-    ensures cause { result ≡ Err ReadFault.Read → HasFailed (D.meter disk.old) (D.meter disk.new) }
+    ensures reads { OnlyReads D.contents D.meter disk.old disk.new }
+    ensures cause { IsCaused ReadFault.Read result D.meter disk.old disk.new }
 {
     if let Some(geometry) = read_copy(alloc, disk, 0)? {
         return Ok(geometry);
@@ -83,8 +83,8 @@ fn read_copy<D: Disk>(alloc: Global, disk: &mut D, at: u32) -> Result<Option<Geo
     ensures wrong { IfOk result (λ found. IfNone found ((image : Image) → Tells (D.contents disk.old) image → ¬ (IsRightCopy image at))) }
     ensures fits { IfOk result (λ found. IfSome found (λ geometry. geometry.blocks ≤ (D.meter disk.old).blocks)) }
     ensures bad { result ≡ Err ReadFault.Bad → (image : Image) → Tells (D.contents disk.old) image → length image ≤ at }
-    ensures reads { OnlyReads (D.contents disk.old) (D.meter disk.old) (D.contents disk.new) (D.meter disk.new) }
-    ensures cause { result ≡ Err ReadFault.Read → HasFailed (D.meter disk.old) (D.meter disk.new) }
+    ensures reads { OnlyReads D.contents D.meter disk.old disk.new }
+    ensures cause { IsCaused ReadFault.Read result D.meter disk.old disk.new }
 {
     let device = disk.blocks();
     let mut block = Box::new(alloc, [0; 4096])?;
@@ -101,8 +101,8 @@ fn read_newest<D: Disk>(
     requires { geometry.now.blocks ≤ (D.meter disk.old).blocks }
     ensures newest { IfOk result (λ found. (image : Image) → Tells (D.contents disk.old) image → IsNewestPack geometry.now image found.0 found.1) }
     ensures bad { result ≡ Err ReadFault.Bad → (image : Image) → Tells (D.contents disk.old) image → (side : ImageSide) → ¬ (IsValid geometry.now image side) }
-    ensures reads { OnlyReads (D.contents disk.old) (D.meter disk.old) (D.contents disk.new) (D.meter disk.new) }
-    ensures cause { result ≡ Err ReadFault.Read → HasFailed (D.meter disk.old) (D.meter disk.new) }
+    ensures reads { OnlyReads D.contents D.meter disk.old disk.new }
+    ensures cause { IsCaused ReadFault.Read result D.meter disk.old disk.new }
 {
     let a = read_pack(alloc, disk, geometry, Side::A)?;
     let b = read_pack(alloc, disk, geometry, Side::B)?;

@@ -1,7 +1,7 @@
 //! Reading a tree.
 ghost use Rattle.std.specs.Prelude.{◌≡◌, ◌≢◌, ◌≤◌, ℕ, Err, IfOk, IfSome};
 ghost use Rattle.f2_disk.specs.Contents.{latest};
-ghost use Rattle.f2_disk.specs.Meter.{HasFailed, IsWithin};
+ghost use Rattle.f2_disk.specs.Using.{IsCaused, OnlyReads};
 ghost use Rattle.f2_image.specs.Images.{Image};
 ghost use Rattle.f2_image.specs.Faults.{MOST_VERSION};
 ghost use Rattle.f2_model.specs.Tree.{Rows};
@@ -46,9 +46,8 @@ pub fn read<D: Disk>(alloc: Global, disk: &mut D) -> Result<Found, ReadFault>
     // No tree is refused that is laid out plainly under a version that a mount takes.
     ensures bad { result ≡ Err ReadFault.Bad → IfSome (D.contents disk.old) (λ lists. HasNoneLaid (latest lists)) }
 
-    ensures kept { D.contents disk.new ≡ D.contents disk.old }
-    ensures cause { result ≡ Err ReadFault.Read → HasFailed (D.meter disk.old) (D.meter disk.new) }
-    ensures within { IsWithin 0 (D.meter disk.old) (D.meter disk.new) }
+    ensures reads { OnlyReads D.contents D.meter disk.old disk.new }
+    ensures cause { IsCaused ReadFault.Read result D.meter disk.old disk.new }
 {
     let point = read_point(alloc, disk)?;
     let table = read_table(alloc, disk, &point.geometry, point.second)?;

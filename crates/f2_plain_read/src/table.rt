@@ -1,9 +1,9 @@
 //! The node address table.
 ghost use Rattle.std.specs.Prelude.{◌≡◌, ◌≤◌, ◌+◌, ◌*◌, ◌<◌, ◌^◌, length, Err, IfOk, OnOk};
-ghost use Rattle.f2_disk.specs.Meter.{HasFailed};
+ghost use Rattle.f2_disk.specs.Using.{IsCaused, OnlyReads};
 ghost use Rattle.f2_format.specs.Geometry.{ENTRIES_A_NAT_BLOCK};
 ghost use Rattle.f2_image.specs.Images.{Image};
-ghost use Rattle.f2_plain_read.specs.Told.{Tells, OnlyReads};
+ghost use Rattle.f2_plain_read.specs.Told.{Tells};
 ghost use Rattle.f2_plain_read.specs.Points.{IsTable, HasEntriesMore};
 
 use crate::blocks::read_block;
@@ -26,8 +26,8 @@ pub(crate) fn read_table<D: Disk>(
     ensures table { IfOk result (λ table. (image : Image) → Tells (D.contents disk.old) image → IsTable geometry.now second image geometry.now.nat table.items) }
     ensures size { IfOk result (λ table. length table.items ≡ ENTRIES_A_NAT_BLOCK * geometry.now.nat) }
     ensures bad { result ≡ Err ReadFault.Bad → (image : Image) → Tells (D.contents disk.old) image → length image < geometry.now.blocks }
-    ensures reads { OnlyReads (D.contents disk.old) (D.meter disk.old) (D.contents disk.new) (D.meter disk.new) }
-    ensures cause { result ≡ Err ReadFault.Read → HasFailed (D.meter disk.old) (D.meter disk.new) }
+    ensures reads { OnlyReads D.contents D.meter disk.old disk.new }
+    ensures cause { IsCaused ReadFault.Read result D.meter disk.old disk.new }
 {
     let mut table = Vec::new(alloc);
     let mut block = Box::new(alloc, [0; 4096])?;

@@ -3,14 +3,15 @@ use Rattle.std.specs.Ordering.{nat_cmp}
 use Rattle.std.specs.FinMap as map
 use Rattle.f2_plain_read.specs.Building.{IsBuilt, AreBelow}
 use Rattle.f2_plain_read.specs.declared.built.Built.{Built}
-use Rattle.f2_plain_read.proofs.Telling.{reads_none, reads_to, reads_as, tells_on, fault_came}
+use Rattle.f2_disk.proofs.UsingLaws.{reads_none}
+use Rattle.f2_plain_read.proofs.Telling.{reads_to, reads_as, tells_on, fault_came}
 use Rattle.f2_plain_read.proofs.Building.{built_nothing, built_none}
 use Rattle.f2_plain_read.proofs.built.read_files.Goals as goal
 use Rattle.f2_plain_read.proofs.built.read_files.Goals.{then-at-ne0+in_ok-add_file, else-at-ne0}
 
 pub loop-ino-init : goal.loop-ino-init
 loop-ino-init g c = record {
-  reads = reads_none _ _;
+  reads = reads_none _ _ _;
   built = λ image t tree stored out table. built_nothing image tree stored out _ c.new.ensures c.new-2.ensures c.new-3.ensures;
   keys = λ ino there. absurd (there (ap (λ places. map.get places ino) c.new-3.ensures ∙ map.get-empty nat_cmp ino));
 }

@@ -1,14 +1,15 @@
 use Rattle.std.proofs.Common.{◌∙◌, ap, arith}
 use Rattle.std.specs.Ordering.{nat_cmp}
 use Rattle.std.specs.FinMap as map
-use Rattle.f2_plain_read.proofs.Telling.{reads_none, reads_to, reads_as, tells_on}
+use Rattle.f2_disk.proofs.UsingLaws.{reads_none}
+use Rattle.f2_plain_read.proofs.Telling.{reads_to, reads_as, tells_on}
 use Rattle.f2_plain_read.proofs.Pages.{page_more, page_skipped, past_more, past_same}
 use Rattle.f2_plain_read.proofs.files.read_pages.Goals as goal
 use Rattle.f2_plain_read.proofs.files.read_pages.Goals.{then-at-ne0+in_ok-read_block+in_ok-put, else-at-ne0}
 
 pub loop-page-init : goal.loop-page-init
 loop-page-init g c = record {
-  reads = reads_none _ _;
+  reads = reads_none _ _ _;
   within = λ image t page below. absurd (omega arith);
   past = λ page above. ap (λ pages. map.get pages page) c.new-pages.ensures ∙ map.get-empty nat_cmp page;
 }
