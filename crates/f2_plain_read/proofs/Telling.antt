@@ -9,6 +9,11 @@ use Rattle.f2_disk.specs.Using.{OnlyReads}
 use Rattle.f2_disk.proofs.UsingLaws.{reads_then}
 use Rattle.f2_image.specs.Images.{Image}
 use Rattle.f2_plain_read.specs.Told.{Tells}
+use Rattle.f2_plain_read.specs.Faults.{unbuilt}
+use Rattle.f2_plain_read.specs.declared.faults.BuildFault.{BuildFault}
+use Rattle.f2_plain_read.specs.declared.faults.BuildFault.TheVariants as build
+use Rattle.f2_plain_read.specs.declared.faults.ReadFault.{ReadFault}
+use Rattle.f2_plain_read.specs.declared.faults.ReadFault.TheVariants.{Bad, Memory}
 
 -- what holds where contents are told holds of the image that is told
 pub told : (held : Option Contents) (P : Image → Type 0) → IfSome held (λ lists. P (latest lists)) → (image : Image) → Tells held image → P image
@@ -61,6 +66,18 @@ fault_came {X} {Y} {E} (Err e) fault other is h = ap Err (sym is ∙ same e othe
   where
     same : (a b : E) → ◌≡◌ {A = Result X E} (Err a) (Err b) → a ≡ b
     same a b h = cc
+
+-- what makes no tree is what came, and not want of memory
+pub bad_came : {X Y : Type 0} (r : Result X ReadFault) (fault : BuildFault) → IsErrAnd r (λ e. e ≡ unbuilt fault) → r ≡ Err Bad → ◌≡◌ {A = Result Y BuildFault} (Err fault) (Err build.Bad)
+bad_came (Ok x) fault is h = absurd is
+bad_came {X} (Err e) build.Bad is h = refl
+bad_came {X} (Err e) build.Memory is h = absurd (wrong (sym is ∙ same e Bad h))
+  where
+    same : (a b : ReadFault) → ◌≡◌ {A = Result X ReadFault} (Err a) (Err b) → a ≡ b
+    same a b h = cc
+
+    wrong : Memory ≡ Bad → ⊥
+    wrong h = cc
 
 -- runs of calls on values of one type
 module _ {D : Type 0} (contents : D → Option Contents) (meter : D → Meter) where

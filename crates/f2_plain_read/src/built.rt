@@ -13,7 +13,7 @@ ghost use Rattle.f2_plain_read.specs.Reads.{IsLaidOut};
 ghost use Rattle.f2_plain_read.specs.Building.{IsBuilt, AreBelow, IsTableFor, TakesContent, IsTakable, IsNamedBy};
 
 use crate::dentries::dents_of;
-use crate::faults::ReadFault;
+use crate::faults::{BuildFault, ReadFault};
 use crate::files::{read_file, read_pages};
 use crate::names::{Bound, Names};
 use f2_disk::Disk;
@@ -99,10 +99,9 @@ fn take_content(
     ino: u32,
     kind: Kind,
     pages: Pages,
-) -> Result<Pages, ReadFault>
+) -> Result<Pages, BuildFault>
     ensures taken { IfOk result (λ left. TakesContent kind ino pages names.old names.new left) }
-    ensures bad { result ≡ Err ReadFault.Bad → ¬ (IsTakable kind ino pages names.old) }
-    ensures no_read { result ≢ Err ReadFault.Read }
+    ensures bad { result ≡ Err BuildFault.Bad → ¬ (IsTakable kind ino pages names.old) }
 {
     match kind {
         Kind::Regular => Ok(pages),
@@ -119,11 +118,10 @@ pub(crate) fn name_rows(
     alloc: Global,
     built: Built,
     limit: u32,
-) -> Result<(Tree, Places), ReadFault>
+) -> Result<(Tree, Places), BuildFault>
     ensures tree { IfOk result (λ named. (extent : Extent) (tree : Rows) (stood : PlaceMap) → IsStorable extent tree → limit ≡ nid_limit extent → IsBuilt tree stood limit built → named.0 ≡ tree) }
     ensures places { IfOk result (λ named. named.1 ≡ built.places) }
-    ensures bad { result ≡ Err ReadFault.Bad → (extent : Extent) (tree : Rows) (stood : PlaceMap) → IsStorable extent tree → limit ≡ nid_limit extent → ¬ (IsBuilt tree stood limit built) }
-    ensures no_read { result ≢ Err ReadFault.Read }
+    ensures bad { result ≡ Err BuildFault.Bad → (extent : Extent) (tree : Rows) (stood : PlaceMap) → IsStorable extent tree → limit ≡ nid_limit extent → ¬ (IsBuilt tree stood limit built) }
 {
     let Built {
         mut rows,
@@ -140,11 +138,10 @@ pub(crate) fn name_rows(
 }
 
 /// A row under its name.
-fn name_row(row: Row, bound: Option<Bound>) -> Result<Row, ReadFault>
+fn name_row(row: Row, bound: Option<Bound>) -> Result<Row, BuildFault>
     ensures named { IfOk result (λ named. (whole : TreeRow) → IsNamedBy whole row bound → named ≡ whole) }
     ensures own { IfOk result (λ named. named.ino ≡ row.ino) }
-    ensures bad { result ≡ Err ReadFault.Bad → (whole : TreeRow) → ¬ (IsNamedBy whole row bound) }
-    ensures no_read { result ≢ Err ReadFault.Read }
+    ensures bad { result ≡ Err BuildFault.Bad → (whole : TreeRow) → ¬ (IsNamedBy whole row bound) }
 {
     match bound {
         None if row.ino == ROOT => Ok(Row {
@@ -156,6 +153,6 @@ fn name_row(row: Row, bound: Option<Bound>) -> Result<Row, ReadFault>
             name,
             ..row
         }),
-        _ => Err(ReadFault::Bad),
+        _ => Err(BuildFault::Bad),
     }
 }

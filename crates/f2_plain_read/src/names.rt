@@ -4,7 +4,7 @@ ghost use Rattle.std.specs.FinMap as map;
 ghost use Rattle.f2_dentry_block.specs.Dents.{dentry_of};
 ghost use Rattle.f2_plain_read.specs.Bindings.{with_names, AreFresh};
 
-use crate::faults::ReadFault;
+use crate::faults::BuildFault;
 use f2_dentry_block::Dent;
 use f2_model::Name;
 use std::alloc::Global;
@@ -58,10 +58,9 @@ impl Names {
     }
 
     /// Binds the names of a directory. `Bad` is for a file that would have two names.
-    pub(crate) fn bind_all(&mut self, directory: u32, dents: Vec<Dent>) -> Result<(), ReadFault>
+    pub(crate) fn bind_all(&mut self, directory: u32, dents: Vec<Dent>) -> Result<(), BuildFault>
         ensures bound { OnOk result (self.new ≡ with_names directory self.old (map_list dentry_of dents.items)) }
-        ensures bad { result ≡ Err ReadFault.Bad → ¬ (AreFresh directory self.old (map_list dentry_of dents.items)) }
-        ensures no_read { result ≢ Err ReadFault.Read }
+        ensures bad { result ≡ Err BuildFault.Bad → ¬ (AreFresh directory self.old (map_list dentry_of dents.items)) }
     {
         for Dent { name, ino, .. } in dents {
             let parent = directory;
@@ -71,14 +70,13 @@ impl Names {
     }
 
     /// Binds a name to a file that has none.
-    fn bind(&mut self, ino: u32, bound: Bound) -> Result<(), ReadFault>
+    fn bind(&mut self, ino: u32, bound: Bound) -> Result<(), BuildFault>
         ensures fresh { OnOk result (map.get self.old ino ≡ None) }
         ensures bound { OnOk result (self.new ≡ map.insert self.old ino bound) }
-        ensures bad { result ≡ Err ReadFault.Bad → map.get self.old ino ≢ None }
-        ensures no_read { result ≢ Err ReadFault.Read }
+        ensures bad { result ≡ Err BuildFault.Bad → map.get self.old ino ≢ None }
     {
         if self.names.contains_key(&ino) {
-            return Err(ReadFault::Bad);
+            return Err(BuildFault::Bad);
         }
         self.names.insert(ino, bound)?;
         Ok(())

@@ -11,7 +11,7 @@ ghost use Rattle.f2_plain_read.specs.Building.{AreBelow};
 ghost use Rattle.f2_plain_read.specs.Finding.{IsReadOf};
 
 use crate::built::{Built, name_rows, read_files};
-use crate::faults::ReadFault;
+use crate::faults::{BuildFault, ReadFault};
 use crate::kept::is_kept;
 use crate::point::{Point, read_point};
 use crate::table::read_table;
@@ -52,23 +52,23 @@ pub fn read<D: Disk>(alloc: Global, disk: &mut D) -> Result<Found, ReadFault>
     let point = read_point(alloc, disk)?;
     let table = read_table(alloc, disk, &point.geometry, point.second)?;
     let built = read_files(alloc, disk, &table)?;
-    found_of(alloc, point, built, table.len() as u32)
+    let found = found_of(alloc, point, built, table.len() as u32)?;
+    Ok(found)
 }
 
 /// What was found, where its tree can be stored and its places are kept.
-fn found_of(alloc: Global, point: Point, built: Built, limit: u32) -> Result<Found, ReadFault>
+fn found_of(alloc: Global, point: Point, built: Built, limit: u32) -> Result<Found, BuildFault>
     requires below { AreBelow limit built.places }
     requires version { point.version ≤ MOST_VERSION }
     ensures found { IfOk result (λ found. (image : Image) (tree : Rows) (stored : Told) → IsReadOf image tree stored point limit built → (found.tree ≡ tree) × (found.stored ≡ stored)) }
     ensures sound { IfOk result (λ found. (blocks : ℕ) → point.geometry.blocks ≤ blocks → IsSoundOn blocks found.tree found.stored) }
-    ensures bad { result ≡ Err ReadFault.Bad → (image : Image) (tree : Rows) (stored : Told) → ¬ (IsReadOf image tree stored point limit built) }
-    ensures no_read { result ≢ Err ReadFault.Read }
+    ensures bad { result ≡ Err BuildFault.Bad → (image : Image) (tree : Rows) (stored : Told) → ¬ (IsReadOf image tree stored point limit built) }
 {
     let (tree, places) = name_rows(alloc, built, limit)?;
     if !is_storable(alloc, &tree, &point.geometry)?
         || !is_kept(alloc, &point.geometry, &places, limit)?
     {
-        return Err(ReadFault::Bad);
+        return Err(BuildFault::Bad);
     }
     let stored = Stored {
         geometry: point.geometry,

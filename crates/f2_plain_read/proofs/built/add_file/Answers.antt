@@ -1,7 +1,7 @@
 use Rattle.std.proofs.Common.{◌∙◌, subst, arith}
 use Rattle.f2_laid.specs.declared.places.Place.{Place}
 use Rattle.f2_plain_read.specs.Files.{ArePagesAt, ReachesPast}
-use Rattle.f2_plain_read.proofs.Telling.{tells_on, fault_came}
+use Rattle.f2_plain_read.proofs.Telling.{tells_on, fault_came, bad_came}
 use Rattle.f2_plain_read.proofs.Standing.{stands, node_short, no_page_past}
 use Rattle.f2_plain_read.proofs.Building.{takable_here, built_next, built_as, keys_next, unnamed}
 use Rattle.f2_plain_read.proofs.built.add_file.Goals as goal
@@ -25,7 +25,7 @@ returns-in_err-pages-2-clause-bad g c bad image t tree stored out is built =
     let s = stands image tree stored out c.args.ino c.args.at is c.requires in
     let found = c.in_ok-file.ensures.file image t s.row s.place s.own s.at_place s.inode in
     let pages = subst (λ (p : Place). ArePagesAt image p c.in_ok-pages.pages) found.place (c.in_ok-pages.ensures.pages image (tells_on _ _ image c.in_ok-file.ensures.reads.kept t)) in
-    c.in_err-pages-2.ensures.bad (fault_came _ _ _ c.from_residual-in_err-pages-2.ensures.1 bad) (takable_here image tree stored out c.args.ino c.args.at s c.args.built.now built c.in_ok-file.file found c.in_ok-pages.pages pages)
+    c.in_err-pages-2.ensures.bad (bad_came _ _ c.from_residual-in_err-pages-2.ensures.1 bad) (takable_here image tree stored out c.args.ino c.args.at s c.args.built.now built c.in_ok-file.file found c.in_ok-pages.pages pages)
 
 pub returns-clause-built : goal.returns-clause-built
 returns-clause-built g c image t tree stored out is built =

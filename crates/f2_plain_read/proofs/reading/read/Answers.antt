@@ -1,7 +1,6 @@
 use Rattle.std.proofs.Common.{◌∙◌}
-use Rattle.f2_plain_calls.proofs.Results.{ok_after}
 use Rattle.f2_plain_read.specs.Reads.{IsLaidOut, HasNoneLaid, IsAllLaidIn}
-use Rattle.f2_plain_read.proofs.Telling.{telling, tells_on, fault_came}
+use Rattle.f2_plain_read.proofs.Telling.{telling, tells_on, fault_came, bad_came}
 use Rattle.f2_plain_read.proofs.Finding.{too_short, slice_for, read_of}
 use Rattle.f2_plain_read.proofs.reading.read.Goals as goal
 
@@ -24,24 +23,24 @@ returns-in_err-built-clause-bad g c bad = telling _ HasNoneLaid (λ image t tree
     (slice_for image tree stored out c.in_ok-point.point point c.in_ok-table.table.items c.deref.result.now c.deref.ensures.value (c.in_ok-table.ensures.table image after_point)))
 
 pub returns-clause-found : goal.returns-clause-found
-returns-clause-found g c = ok_after c.found_of.result (λ found is. telling _ (λ image. IsAllLaidIn image found.tree found.stored) (λ image t tree stored storable laid.
+returns-clause-found g c = telling _ (λ image. IsAllLaidIn image c.in_ok-found.found.tree c.in_ok-found.found.stored) (λ image t tree stored storable laid.
     let out : IsLaidOut image tree stored = record { storable = storable; laid = laid } in
     let after_point = tells_on _ _ image c.in_ok-point.ensures.reads.kept t in
     let point = c.in_ok-point.ensures.found image t tree stored laid in
     let table = c.in_ok-table.ensures.table image after_point in
     let slice = slice_for image tree stored out c.in_ok-point.point point c.in_ok-table.table.items c.deref.result.now c.deref.ensures.value table in
     let files = c.in_ok-built.ensures.built image (tells_on _ _ image c.in_ok-table.ensures.reads.kept after_point) tree stored out slice in
-    is image tree stored (read_of image tree stored out c.in_ok-point.point point c.in_ok-table.table.items c.deref.result.now c.deref.ensures.value table c.len.result c.in_ok-built.built (c.len.ensures ∙ c.in_ok-table.table.ok.0) files))) c.found_of.ensures.found
+    c.in_ok-found.ensures.found image tree stored (read_of image tree stored out c.in_ok-point.point point c.in_ok-table.table.items c.deref.result.now c.deref.ensures.value table c.len.result c.in_ok-built.built (c.len.ensures ∙ c.in_ok-table.table.ok.0) files))
 
 pub returns-clause-sound : goal.returns-clause-sound
-returns-clause-sound g c = ok_after c.found_of.result (λ found sound. sound _ c.in_ok-point.ensures.fits) c.found_of.ensures.sound
+returns-clause-sound g c = c.in_ok-found.ensures.sound _ c.in_ok-point.ensures.fits
 
-pub returns-clause-bad : goal.returns-clause-bad
-returns-clause-bad g c bad = telling _ HasNoneLaid (λ image t tree stored storable few laid.
+pub returns-in_err-found-clause-bad : goal.returns-in_err-found-clause-bad
+returns-in_err-found-clause-bad g c bad = telling _ HasNoneLaid (λ image t tree stored storable few laid.
     let out : IsLaidOut image tree stored = record { storable = storable; laid = laid } in
     let after_point = tells_on _ _ image c.in_ok-point.ensures.reads.kept t in
     let point = c.in_ok-point.ensures.found image t tree stored laid in
     let table = c.in_ok-table.ensures.table image after_point in
     let slice = slice_for image tree stored out c.in_ok-point.point point c.in_ok-table.table.items c.deref.result.now c.deref.ensures.value table in
     let files = c.in_ok-built.ensures.built image (tells_on _ _ image c.in_ok-table.ensures.reads.kept after_point) tree stored out slice in
-    c.found_of.ensures.bad bad image tree stored (read_of image tree stored out c.in_ok-point.point point c.in_ok-table.table.items c.deref.result.now c.deref.ensures.value table c.len.result c.in_ok-built.built (c.len.ensures ∙ c.in_ok-table.table.ok.0) files))
+    c.in_err-found.ensures.bad (bad_came _ _ c.from_residual-in_err-found.ensures.1 bad) image tree stored (read_of image tree stored out c.in_ok-point.point point c.in_ok-table.table.items c.deref.result.now c.deref.ensures.value table c.len.result c.in_ok-built.built (c.len.ensures ∙ c.in_ok-table.table.ok.0) files))
