@@ -17,10 +17,6 @@ tail_of stored = tail_address (side_of stored.side)
 abbrev pub one_block : ℕ → List ℕ → List Planned
 one_block at block = record { at = at; block = block } ∷ []
 
--- as many blocks as before
-abbrev pub HasAsMany : Contents → Contents → Type 0
-HasAsMany before after = length after ≡ length before
-
 -- each content of a disk was there before, or the plan writes it
 pub record OnlyAdds (plan : List Planned) (before after : Contents) : Type 0 where
   pub size : length after ≡ length before

@@ -2,9 +2,9 @@
 ghost use Rattle.std.specs.Prelude.{◌+◌, ◌≤◌, OnErr, OnOk};
 ghost use Rattle.f2_format.specs.Geometry.{data_start};
 ghost use Rattle.f2_disk.specs.Contents.{WhereTold};
-ghost use Rattle.f2_disk.specs.Meter.{HasFailed, IsWithin};
+ghost use Rattle.f2_disk.specs.Meter.{HasFailed};
+ghost use Rattle.f2_disk.specs.Using.{WritesAtMost};
 ghost use Rattle.f2_plain_save.specs.Blanks.{HasBlank, HasSupers, IsCleared};
-ghost use Rattle.f2_plain_save.specs.Writing.{HasAsMany};
 
 use crate::writing::write_block;
 use f2_disk::{Disk, DiskFault};
@@ -15,10 +15,9 @@ pub(crate) fn write_blank<D: Disk>(disk: &mut D, geometry: &Geometry) -> Result<
     requires { geometry.now.blocks ≤ (D.meter disk.old).blocks }
 
     ensures blank { OnOk result (WhereTold (D.contents disk.old) (D.contents disk.new) (HasBlank geometry.now)) }
-    ensures told { WhereTold (D.contents disk.old) (D.contents disk.new) HasAsMany }
 
+    ensures writes { WritesAtMost (data_start geometry.now + 2) D.contents D.meter disk.old disk.new }
     ensures cause { OnErr result (HasFailed (D.meter disk.old) (D.meter disk.new)) }
-    ensures within { IsWithin (data_start geometry.now + 2) (D.meter disk.old) (D.meter disk.new) }
 {
     let device = disk.blocks();
     let end = geometry.data_first();
@@ -34,10 +33,9 @@ fn clear<D: Disk>(disk: &mut D, end: u32) -> Result<(), DiskFault>
     requires { end ≤ (D.meter disk.old).blocks }
 
     ensures cleared { OnOk result (WhereTold (D.contents disk.old) (D.contents disk.new) (IsCleared end)) }
-    ensures told { WhereTold (D.contents disk.old) (D.contents disk.new) HasAsMany }
 
+    ensures writes { WritesAtMost end D.contents D.meter disk.old disk.new }
     ensures cause { OnErr result (HasFailed (D.meter disk.old) (D.meter disk.new)) }
-    ensures within { IsWithin end (D.meter disk.old) (D.meter disk.new) }
 {
     let zeros = [0; 4096];
     for at in 0..end {
@@ -51,10 +49,9 @@ fn write_supers<D: Disk>(disk: &mut D, geometry: &Geometry) -> Result<(), DiskFa
     requires { 2 ≤ (D.meter disk.old).blocks }
 
     ensures supers { OnOk result (WhereTold (D.contents disk.old) (D.contents disk.new) (HasSupers geometry.now)) }
-    ensures told { WhereTold (D.contents disk.old) (D.contents disk.new) HasAsMany }
 
+    ensures writes { WritesAtMost 2 D.contents D.meter disk.old disk.new }
     ensures cause { OnErr result (HasFailed (D.meter disk.old) (D.meter disk.new)) }
-    ensures within { IsWithin 2 (D.meter disk.old) (D.meter disk.new) }
 {
     let mut block = [0; 4096];
     write_super(&mut block, geometry);

@@ -3,12 +3,11 @@ ghost use Rattle.std.specs.Prelude.{◌≡◌, ◌+◌, ◌≤◌, Err, IfOk, fa
 ghost use Rattle.std.specs.FinMap as map;
 ghost use Rattle.f2_format.specs.Geometry.{IsGeometry, data_start};
 ghost use Rattle.f2_disk.specs.Contents.{WhereTold};
-ghost use Rattle.f2_disk.specs.Meter.{HasFailed, IsWithin};
+ghost use Rattle.f2_disk.specs.Using.{IsCaused, WritesAtMost};
 ghost use Rattle.f2_laid.specs.Laid.{IsKept, root_alone};
 ghost use Rattle.f2_laid.specs.Planned.{IsPlanOf};
 ghost use Rattle.f2_pack.specs.declared.packs.Side.TheVariants as side;
 ghost use Rattle.f2_plain_save.specs.Saves.{IsMade};
-ghost use Rattle.f2_plain_save.specs.Writing.{HasAsMany};
 
 use crate::blanks::write_blank;
 use crate::faults::SaveFault;
@@ -40,13 +39,11 @@ pub fn mkfs<D: Disk>(alloc: Global, disk: &mut D, geometry: Geometry) -> Result<
     ensures kept { IfOk result (λ next. IsKept next.geometry next.places) }
 
     ensures made { IfOk result (λ next. WhereTold (D.contents disk.old) (D.contents disk.new) (IsMade next)) }
-    // whatever the result is
-    ensures told { WhereTold (D.contents disk.old) (D.contents disk.new) HasAsMany }
 
     ensures memory { result ≡ Err SaveFault.Memory
         → (D.contents disk.new ≡ D.contents disk.old) × (D.meter disk.new ≡ D.meter disk.old) }
-    ensures cause { result ≡ Err SaveFault.Write → HasFailed (D.meter disk.old) (D.meter disk.new) }
-    ensures within { IsWithin (data_start geometry + 2 + (geometry.nat + 4)) (D.meter disk.old) (D.meter disk.new) }
+    ensures writes { WritesAtMost (data_start geometry + 2 + (geometry.nat + 4)) D.contents D.meter disk.old disk.new }
+    ensures cause { IsCaused SaveFault.Write result D.meter disk.old disk.new }
 {
     let plan = plan_first(alloc, geometry)?;
     write_blank(disk, &geometry)?;

@@ -1,7 +1,7 @@
 //! Saving a tree.
 ghost use Rattle.std.specs.Prelude.{◌≡◌, ◌+◌, ◌<◌, ◌≤◌, ◌^◌, Err, IfOk, length};
 ghost use Rattle.f2_disk.specs.Contents.{WhereTold};
-ghost use Rattle.f2_disk.specs.Meter.{HasFailed, IsWithin};
+ghost use Rattle.f2_disk.specs.Using.{IsCaused, WritesAtMost};
 ghost use Rattle.f2_laid.specs.Laid.{IsKept, IsStorable};
 ghost use Rattle.f2_laid.specs.Laws.{IsNext};
 ghost use Rattle.f2_laid.specs.Planned.{IsPlanOf};
@@ -45,8 +45,8 @@ pub fn save<D: Disk>(
 
     ensures memory { result ≡ Err SaveFault.Memory
         → (D.contents disk.new ≡ D.contents disk.old) × (D.meter disk.new ≡ D.meter disk.old) }
-    ensures cause { result ≡ Err SaveFault.Write → HasFailed (D.meter disk.old) (D.meter disk.new) }
-    ensures within { IsWithin (most_writes old.now.geometry + 1) (D.meter disk.old) (D.meter disk.new) }
+    ensures writes { WritesAtMost (most_writes old.now.geometry + 1) D.contents D.meter disk.old disk.new }
+    ensures cause { IsCaused SaveFault.Write result D.meter disk.old disk.new }
 {
     let plan = plan_next(alloc, old, tree)?;
     write_plan(disk, &plan)?;

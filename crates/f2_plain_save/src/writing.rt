@@ -1,10 +1,11 @@
 //! Writing the blocks of a plan.
 ghost use Rattle.std.specs.Prelude.{◌+◌, ◌<◌, ◌≤◌, All, OnErr, OnOk, length};
 ghost use Rattle.f2_disk.specs.Contents.{WhereTold};
-ghost use Rattle.f2_disk.specs.Meter.{HasFailed, IsWithin};
+ghost use Rattle.f2_disk.specs.Meter.{HasFailed};
+ghost use Rattle.f2_disk.specs.Using.{WritesAtMost};
 ghost use Rattle.f2_laid.specs.Laid.{IsPlaced};
 ghost use Rattle.f2_laid.specs.Planned.{IsWriteOf};
-ghost use Rattle.f2_plain_save.specs.Writing.{HasAsMany, HasPut, HasSettled, IsPlanLeft, IsPlanWritten, MayLeave, OnlyAdds, one_block, tail_of};
+ghost use Rattle.f2_plain_save.specs.Writing.{HasPut, HasSettled, IsPlanLeft, IsPlanWritten, MayLeave, OnlyAdds, one_block, tail_of};
 
 use crate::packs::tail_at;
 use f2_disk::{Block, Disk, DiskFault};
@@ -22,10 +23,9 @@ pub(crate) fn write_plan<D: Disk>(disk: &mut D, plan: &Plan) -> Result<(), DiskF
         (IsPlanWritten plan.now.blocks.items (tail_of plan.now.stored) plan.now.tail)) }
     ensures left { WhereTold (D.contents disk.old) (D.contents disk.new)
         (IsPlanLeft plan.now.blocks.items (tail_of plan.now.stored) plan.now.tail) }
-    ensures told { WhereTold (D.contents disk.old) (D.contents disk.new) HasAsMany }
 
+    ensures writes { WritesAtMost (length plan.now.blocks.items + 1) D.contents D.meter disk.old disk.new }
     ensures cause { OnErr result (HasFailed (D.meter disk.old) (D.meter disk.new)) }
-    ensures within { IsWithin (length plan.now.blocks.items + 1) (D.meter disk.old) (D.meter disk.new) }
 {
     let tail_at = tail_at(&plan.stored.geometry, plan.stored.side);
     settle_all(disk, &plan.blocks)?;
@@ -38,10 +38,9 @@ fn settle_all<D: Disk>(disk: &mut D, blocks: &[Planned]) -> Result<(), DiskFault
 
     ensures settled { OnOk result (WhereTold (D.contents disk.old) (D.contents disk.new) (HasSettled blocks.now)) }
     ensures left { WhereTold (D.contents disk.old) (D.contents disk.new) (MayLeave blocks.now) }
-    ensures told { WhereTold (D.contents disk.old) (D.contents disk.new) HasAsMany }
 
+    ensures writes { WritesAtMost (length blocks.now) D.contents D.meter disk.old disk.new }
     ensures cause { OnErr result (HasFailed (D.meter disk.old) (D.meter disk.new)) }
-    ensures within { IsWithin (length blocks.now) (D.meter disk.old) (D.meter disk.new) }
 {
     write_all(disk, blocks)?;
     disk.flush()
@@ -53,10 +52,9 @@ fn settle<D: Disk>(disk: &mut D, at: u32, block: &Block) -> Result<(), DiskFault
 
     ensures settled { OnOk result (WhereTold (D.contents disk.old) (D.contents disk.new) (HasSettled (one_block at block.now))) }
     ensures left { WhereTold (D.contents disk.old) (D.contents disk.new) (MayLeave (one_block at block.now)) }
-    ensures told { WhereTold (D.contents disk.old) (D.contents disk.new) HasAsMany }
 
+    ensures writes { WritesAtMost 1 D.contents D.meter disk.old disk.new }
     ensures cause { OnErr result (HasFailed (D.meter disk.old) (D.meter disk.new)) }
-    ensures within { IsWithin 1 (D.meter disk.old) (D.meter disk.new) }
 {
     write_block(disk, at, block)?;
     disk.flush()
@@ -69,8 +67,8 @@ fn write_all<D: Disk>(disk: &mut D, blocks: &[Planned]) -> Result<(), DiskFault>
     ensures put { OnOk result (WhereTold (D.contents disk.old) (D.contents disk.new) (HasPut blocks.now)) }
     ensures added { WhereTold (D.contents disk.old) (D.contents disk.new) (OnlyAdds blocks.now) }
 
+    ensures writes { WritesAtMost (length blocks.now) D.contents D.meter disk.old disk.new }
     ensures cause { OnErr result (HasFailed (D.meter disk.old) (D.meter disk.new)) }
-    ensures within { IsWithin (length blocks.now) (D.meter disk.old) (D.meter disk.new) }
 {
     for planned in blocks {
         write_block(disk, planned.at, &planned.block)?;
@@ -85,8 +83,8 @@ pub(crate) fn write_block<D: Disk>(disk: &mut D, at: u32, block: &Block) -> Resu
     ensures put { OnOk result (WhereTold (D.contents disk.old) (D.contents disk.new) (HasPut (one_block at block.now))) }
     ensures added { WhereTold (D.contents disk.old) (D.contents disk.new) (OnlyAdds (one_block at block.now)) }
 
+    ensures writes { WritesAtMost 1 D.contents D.meter disk.old disk.new }
     ensures cause { OnErr result (HasFailed (D.meter disk.old) (D.meter disk.new)) }
-    ensures within { IsWithin 1 (D.meter disk.old) (D.meter disk.new) }
 {
     disk.write(at, block)
 }
