@@ -16,7 +16,7 @@ returns-then-ne-clause-bad g c = λ _.
 pub returns-then-ne-clause-kept : goal.returns-then-ne-clause-kept
 returns-then-ne-clause-kept g c =
     let flush = on_ok c.flush.result (sym c.is_err.ensures.value ∙ c.if-is_err.false) c.flush.ensures.flushed in
-    stays_held c.args.geometry.now (g.D.Disk.contents c.args.disk.now) (g.D.Disk.contents c.flush.new.self) (g.D.Disk.contents c.read.new.disk) flush c.read.ensures.kept
+    stays_held c.args.geometry.now (g.D.Disk.contents c.args.disk.now) (g.D.Disk.contents c.flush.new.self) (g.D.Disk.contents c.read.new.disk) flush c.read.ensures.reads.kept
 
 pub returns-in-Ok-Some-clause-found : goal.returns-in-Ok-Some-clause-found
 returns-in-Ok-Some-clause-found g c =
@@ -32,7 +32,7 @@ returns-in-Ok-Some-clause-found g c =
 pub returns-in-Ok-Some-clause-kept : goal.returns-in-Ok-Some-clause-kept
 returns-in-Ok-Some-clause-kept g c =
     let flush = on_ok c.flush.result (sym c.is_err.ensures.value ∙ c.if-is_err.false) c.flush.ensures.flushed in
-    stays_held c.args.geometry.now (g.D.Disk.contents c.args.disk.now) (g.D.Disk.contents c.flush.new.self) (g.D.Disk.contents c.read.new.disk) flush c.read.ensures.kept
+    stays_held c.args.geometry.now (g.D.Disk.contents c.args.disk.now) (g.D.Disk.contents c.flush.new.self) (g.D.Disk.contents c.read.new.disk) flush c.read.ensures.reads.kept
 
 pub returns-in-Ok-None-clause-bad : goal.returns-in-Ok-None-clause-bad
 returns-in-Ok-None-clause-bad g c = λ _.
@@ -48,17 +48,17 @@ returns-in-Ok-None-clause-bad g c = λ _.
 pub returns-in-Ok-None-clause-kept : goal.returns-in-Ok-None-clause-kept
 returns-in-Ok-None-clause-kept g c =
     let flush = on_ok c.flush.result (sym c.is_err.ensures.value ∙ c.if-is_err.false) c.flush.ensures.flushed in
-    stays_held c.args.geometry.now (g.D.Disk.contents c.args.disk.now) (g.D.Disk.contents c.flush.new.self) (g.D.Disk.contents c.read.new.disk) flush c.read.ensures.kept
+    stays_held c.args.geometry.now (g.D.Disk.contents c.args.disk.now) (g.D.Disk.contents c.flush.new.self) (g.D.Disk.contents c.read.new.disk) flush c.read.ensures.reads.kept
 
 pub returns-in-Err-clause-kept : goal.returns-in-Err-clause-kept
 returns-in-Err-clause-kept g c =
     let flush = on_ok c.flush.result (sym c.is_err.ensures.value ∙ c.if-is_err.false) c.flush.ensures.flushed in
-    stays_held c.args.geometry.now (g.D.Disk.contents c.args.disk.now) (g.D.Disk.contents c.flush.new.self) (g.D.Disk.contents c.read.new.disk) flush c.read.ensures.kept
+    stays_held c.args.geometry.now (g.D.Disk.contents c.args.disk.now) (g.D.Disk.contents c.flush.new.self) (g.D.Disk.contents c.read.new.disk) flush c.read.ensures.reads.kept
 
 pub returns-in-Err-Read-clause-kept : goal.returns-in-Err-Read-clause-kept
 returns-in-Err-Read-clause-kept g c =
     let flush = on_ok c.flush.result (sym c.is_err.ensures.value ∙ c.if-is_err.false) c.flush.ensures.flushed in
-    stays_held c.args.geometry.now (g.D.Disk.contents c.args.disk.now) (g.D.Disk.contents c.flush.new.self) (g.D.Disk.contents c.read.new.disk) flush c.read.ensures.kept
+    stays_held c.args.geometry.now (g.D.Disk.contents c.args.disk.now) (g.D.Disk.contents c.flush.new.self) (g.D.Disk.contents c.read.new.disk) flush c.read.ensures.reads.kept
 
 pub returns-in-Err-Bad-clause-bad : goal.returns-in-Err-Bad-clause-bad
 returns-in-Err-Bad-clause-bad g c = λ _.
@@ -68,9 +68,9 @@ returns-in-Err-Bad-clause-bad g c = λ _.
 pub returns-in-Err-Bad-clause-kept : goal.returns-in-Err-Bad-clause-kept
 returns-in-Err-Bad-clause-kept g c =
     let flush = on_ok c.flush.result (sym c.is_err.ensures.value ∙ c.if-is_err.false) c.flush.ensures.flushed in
-    stays_held c.args.geometry.now (g.D.Disk.contents c.args.disk.now) (g.D.Disk.contents c.flush.new.self) (g.D.Disk.contents c.read.new.disk) flush c.read.ensures.kept
+    stays_held c.args.geometry.now (g.D.Disk.contents c.args.disk.now) (g.D.Disk.contents c.flush.new.self) (g.D.Disk.contents c.read.new.disk) flush c.read.ensures.reads.kept
 
 pub returns-in-Err-Memory-clause-kept : goal.returns-in-Err-Memory-clause-kept
 returns-in-Err-Memory-clause-kept g c =
     let flush = on_ok c.flush.result (sym c.is_err.ensures.value ∙ c.if-is_err.false) c.flush.ensures.flushed in
-    stays_held c.args.geometry.now (g.D.Disk.contents c.args.disk.now) (g.D.Disk.contents c.flush.new.self) (g.D.Disk.contents c.read.new.disk) flush c.read.ensures.kept
+    stays_held c.args.geometry.now (g.D.Disk.contents c.args.disk.now) (g.D.Disk.contents c.flush.new.self) (g.D.Disk.contents c.read.new.disk) flush c.read.ensures.reads.kept
