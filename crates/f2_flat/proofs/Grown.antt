@@ -1,6 +1,6 @@
 -- A tree of files in the root to which one more is added.
 use Rattle.std.proofs.Common.{◌≡◌, ◌≢◌, ◌⊎◌, inl, inr, ℕ, ◌+◌, ◌*◌, ◌<◌, ◌≤◌, Bool, true, false, cond, List, [], ◌∷◌, refl, sym, ap, ◌∙◌, subst, arith}
-use Rattle.std.specs.Prelude.{Option, Some, None, Ok, Err, is_some, nat_lt, if◌then◌else◌, MatchOption}
+use Rattle.std.specs.Prelude.{Option, Some, None, Ok, Err, is_some, nat_lt, if◌then◌else◌}
 use Rattle.std.specs.Bool.{then_some}
 use Rattle.std.specs.Cmp.{nat_cmp_total}
 use Rattle.std.specs.FinMap as map
@@ -219,12 +219,3 @@ kept_with_file tree new names now counts ino name row_name dir_name slots free f
     let counted = counts_with_file tree ino name counts free kept.counted in
     let all : IsKept (with_file tree ino name) (map.insert names name (ino, Regular)) (record { slots = counts.slots + slots_of_name name; pages = counts.pages }) = record { bound = names_with_file tree ino name free files names kept.bound; counted = counted } in
     subst (λ n. IsKept new now (record { slots = counts.slots + n; pages = counts.pages })) (sym slots_is) (kept_same (with_file tree ino name) new (map.insert names name (ino, Regular)) now _ all whole bound)
-
--- what was told of a file that was added
-pub put_none : {A : Type 0} (told : Option Reply) (due : Option Reply) (new grew old : A) → (told ≡ due) × MatchOption told (new ≡ grew) (λ refused. new ≡ old) → told ≡ None → new ≡ grew
-put_none None due new grew old is none = is.1
-put_none (Some refused) due new grew old is none = absurd (cc)
-
-pub put_some : {A : Type 0} (told : Option Reply) (due : Option Reply) (new grew old : A) (refused : Reply) → (told ≡ due) × MatchOption told (new ≡ grew) (λ refused. new ≡ old) → told ≡ Some refused → new ≡ old
-put_some None due new grew old refused is some = absurd (cc)
-put_some (Some other) due new grew old refused is some = is.1

@@ -1,6 +1,7 @@
 -- The refusal of a zone that is too small, and what a tree takes by its counts.
-use Rattle.std.proofs.Common.{◌≡◌, ℕ, ◌+◌, ◌/◌, ◌<◌, ◌≤◌, Bool, true, false, Some, None, refl, ap, ◌∙◌, arith}
-use Rattle.std.specs.Prelude.{nat_lt}
+use Rattle.std.proofs.Common.{◌≡◌, ℕ, ◌+◌, ◌/◌, ◌<◌, ◌≤◌, Bool, true, false, Some, None, refl, sym, ap, ◌∙◌, subst, arith}
+use Rattle.std.specs.Prelude.{nat_lt, Result, Ok, Err, IfErr}
+use Rattle.std.specs.Result.{IsErrAnd}
 use Rattle.std.specs.Bool.{then_some}
 use Rattle.std.specs.FinMap as map
 use Rattle.f2_model.specs.Tree.{Rows, ROOT}
@@ -54,3 +55,8 @@ some_past space need limit refused told = by_test (nat_lt limit need) refl told
     by_test : (b : Bool) → nat_lt limit need ≡ b → Some refused ≡ then_some b (NoSpace space need limit) → limit < need
     by_test true is told = grind (arith, is)
     by_test false is told = absurd (cc)
+
+-- what holds of a refusal holds where it is passed on
+pub passed_on : {X : Type 0} (result : Result X Reply) (came : Reply) (P : Reply → Type 0) → IsErrAnd result (λ e. e ≡ came) → P came → IfErr result P
+passed_on (Ok x) came P is holds = tt
+passed_on (Err refused) came P is holds = subst P (sym is) holds

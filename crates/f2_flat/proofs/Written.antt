@@ -1,6 +1,7 @@
 -- A tree of files in the root after pieces were put into one of them.
 use Rattle.std.proofs.Common.{◌≡◌, ◌≢◌, ◌⊎◌, inl, inr, ℕ, ◌+◌, ◌<◌, ◌≤◌, true, false, cond, List, [], ◌∷◌, refl, sym, ap, ◌∙◌, subst, arith}
-use Rattle.std.specs.Prelude.{Option, Some, None, Ok, nat_lt, is_some}
+use Rattle.std.specs.Prelude.{Option, Some, None, Result, Ok, IfErr, nat_lt, is_some}
+use Rattle.std.specs.Result.{IsErrAnd}
 use Rattle.std.specs.List.{list_any, AllByRecursion}
 use Rattle.std.specs.Ordering.{nat_cmp}
 use Rattle.std.specs.Cmp.{nat_cmp_total}
@@ -20,7 +21,7 @@ use Rattle.f2_model.specs.declared.rows.Kind.TheVariants.{Regular}
 use Rattle.f2_model.specs.declared.requests.Piece.{Piece}
 use Rattle.f2_model.specs.declared.requests.Request.TheVariants.{Write}
 use Rattle.f2_model.specs.declared.replies.Reply.{Reply}
-use Rattle.f2_model.specs.declared.replies.Reply.TheVariants.{Done}
+use Rattle.f2_model.specs.declared.replies.Reply.TheVariants.{Done, Memory}
 use Rattle.f2_model.specs.declared.replies.Space.TheVariants.{Data}
 use Rattle.f2_laws.proofs.Calls.{effect_good}
 use Rattle.f2_laws.proofs.Contents.{raised_within, raised_ends}
@@ -38,7 +39,7 @@ use Rattle.f2_flat.specs.Steps.{FindsFile, TakesPieces, told_beyond, row_with, w
 use Rattle.f2_flat.specs.declared.counts.Counts.{Counts}
 use Rattle.f2_flat.proofs.FlatTrees.{files_of}
 use Rattle.f2_flat.proofs.Grown.{space_by_data}
-use Rattle.f2_flat.proofs.Told.{none_within}
+use Rattle.f2_flat.proofs.Told.{none_within, passed_on}
 use Rattle.f2_flat.proofs.Trees.{taken_put, put_same, sum_apart, sum_changed, nodes_of, data_of}
 
 -- A row that keeps its place in a tree.
@@ -212,6 +213,13 @@ module _ (extent : Extent) (geometry : IsGeometry extent) (tree : Rows) (flat : 
     pub write_refused : (ino : ℕ) (refused : Reply) → told ≡ Some refused → ◌≡◌ {A = Reply × Rows} (refused, tree) (outcome (limits_of extent) tree (Write path pieces) ino)
     write_refused ino refused some =
         sym (outcome_told extent geometry tree flat path pieces finds.0 row finds.1 more grown ino told due ∙ ap (λ o. or_refused tree o (Done, with_pieces tree row pieces)) some)
+
+    pub write_out : {X : Type 0} (ino : ℕ) (result : Result X Reply) (came : Reply) → IsErrAnd result (λ e. e ≡ came) → (came ≡ Memory) ⊎ (told ≡ Some came)
+        → IfErr result (λ refused. (refused ≡ Memory) ⊎ ◌≡◌ {A = Reply × Rows} (refused, tree) (outcome (limits_of extent) tree (Write path pieces) ino))
+    write_out ino result came is why = passed_on result came (λ refused. (refused ≡ Memory) ⊎ ◌≡◌ {A = Reply × Rows} (refused, tree) (outcome (limits_of extent) tree (Write path pieces) ino)) is (elim why [
+      | inl memory ↦ inl memory
+      | inr some ↦ inr (write_refused ino came some)
+    ])
 
     pub write_done : (ino : ℕ) (new : Rows) → told ≡ None → new ≡ with_pieces tree row pieces → ◌≡◌ {A = Reply × Rows} (Done, new) (outcome (limits_of extent) tree (Write path pieces) ino)
     write_done ino new none is =

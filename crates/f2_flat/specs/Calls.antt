@@ -1,5 +1,5 @@
 -- What taking a tree, adding a file and writing into one come to.
-use Rattle.std.specs.Prelude.{◌≡◌, ◌⊎◌, ℕ, ◌+◌, ◌≤◌, List, Option, Some, None, Result, MatchResult}
+use Rattle.std.specs.Prelude.{◌≡◌, ◌⊎◌, ℕ, ◌+◌, ◌≤◌, List, Option, Some, None}
 use Rattle.std.specs.FinMap as map
 use Rattle.f2_format.specs.Geometry.{Extent, node_third}
 use Rattle.f2_model.specs.Tree.{Rows, ROOT}
@@ -32,15 +32,6 @@ pub record IsAdded (extent : Extent) (old new : Rows) (path : List (List ℕ)) (
   pub fits : map.len old + 1 ≤ node_third extent
   pub tree : new ≡ grown old path ino
 
--- a file was added, or it was kept out and the tree stays, as it does where memory is refused
-abbrev pub AddsFile : {E : Type 0} → Extent → Rows → Rows → List (List ℕ) → Result (Result ℕ Reply) E → Type 0
-AddsFile extent old new path result = MatchResult result
-    (λ told. MatchResult told (IsAdded extent old new path) (λ refused. IsKeptOut extent old path refused × (new ≡ old)))
-    (λ _. new ≡ old)
-
--- a write came to the reply and the tree that are due, or memory was refused and the tree stays; no number is given to a
--- row, so the one past the last stands for it
-abbrev pub WritesFile : {E : Type 0} → Extent → Rows → Rows → List (List ℕ) → List Piece → Result Reply E → Type 0
-WritesFile extent old new path pieces result = MatchResult result
-    (λ told. (told, new) ≡ outcome (limits_of extent) old (Write path pieces) (limits_of extent).nids)
-    (λ _. new ≡ old)
+-- the reply and the tree that are due to a write; no number is given to a row, so the one past the last stands for it
+abbrev pub written : Extent → Rows → List (List ℕ) → List Piece → Reply × Rows
+written extent tree path pieces = outcome (limits_of extent) tree (Write path pieces) (limits_of extent).nids

@@ -1,5 +1,5 @@
 -- What the steps of a call come to.
-use Rattle.std.specs.Prelude.{◌≡◌, ℕ, List, Option, Some, None, Result, Ok, MatchOption, MatchResult, nat_lt}
+use Rattle.std.specs.Prelude.{◌≡◌, ◌⊎◌, ℕ, List, Option, Some, None, Result, Ok, MatchResult, nat_lt}
 use Rattle.std.specs.Bool.{then_some}
 use Rattle.std.specs.FinMap as map
 use Rattle.f2_format.specs.Geometry.{Extent}
@@ -12,7 +12,7 @@ use Rattle.f2_model.specs.declared.rows.Kind.TheVariants.{Regular}
 use Rattle.f2_model.specs.declared.requests.Piece.{Piece}
 use Rattle.f2_model.specs.declared.requests.Request.TheVariants.{Create, Write}
 use Rattle.f2_model.specs.declared.replies.Reply.{Reply}
-use Rattle.f2_model.specs.declared.replies.Reply.TheVariants.{NoSpace}
+use Rattle.f2_model.specs.declared.replies.Reply.TheVariants.{NoSpace, Memory}
 use Rattle.f2_model.specs.declared.replies.Space.{Space}
 use Rattle.f2_model.specs.declared.replies.Space.TheVariants.{Data}
 use Rattle.f2_pieces.specs.Fresh.{EndWithin, fresh_pages}
@@ -21,6 +21,10 @@ use Rattle.f2_flat.specs.Flat.{limits_of}
 -- the refusal of a zone that has to hold some blocks and grants fewer
 abbrev pub told_beyond : Space → ℕ → ℕ → Option Reply
 told_beyond space need limit = then_some (nat_lt limit need) (NoSpace space need limit)
+
+-- room is granted where no refusal is told; else it is refused with that, or for want of memory
+abbrev pub IsGranted : {T : Type 0} → Option Reply → Result T Reply → Type 0
+IsGranted told result = MatchResult result (λ _. told ≡ None) (λ refused. (refused ≡ Memory) ⊎ (told ≡ Some refused))
 
 -- a path has a place for a file, whose name this is; or this refusal is the first
 abbrev pub MakesPlace : Extent → Rows → List (List ℕ) → Result (List ℕ) Reply → Type 0
@@ -38,11 +42,9 @@ FindsFile extent tree path pieces result = MatchResult result
 abbrev pub with_file : Rows → ℕ → List ℕ → Rows
 with_file tree ino name = map.insert tree ino (new_row Regular ino ROOT name)
 
--- a file was added to a tree, or it was refused for want of data blocks; then, and where memory is refused, the tree stays
-abbrev pub AddsRow : {E : Type 0} → ℕ → Rows → Rows → ℕ → List ℕ → Result (Option Reply) E → Type 0
-AddsRow limit old new ino name result = MatchResult result
-    (λ told. (told ≡ told_beyond Data (data_of_tree (with_file old ino name)) limit) × MatchOption told (new ≡ with_file old ino name) (λ refused. new ≡ old))
-    (λ error. new ≡ old)
+-- the refusal of a file more, where its data blocks are more than are granted
+abbrev pub told_for_file : Rows → ℕ → List ℕ → ℕ → Option Reply
+told_for_file tree ino name limit = told_beyond Data (data_of_tree (with_file tree ino name)) limit
 
 -- a row with pieces put into it
 abbrev pub row_with : Row → List Piece → Row

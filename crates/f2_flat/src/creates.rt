@@ -1,5 +1,5 @@
 //! Adding a file.
-ghost use Rattle.std.specs.Prelude.{◌≡◌, ◌+◌, ◌<◌, ◌^◌, None, Ok, Err, MatchResult};
+ghost use Rattle.std.specs.Prelude.{◌≡◌, ◌+◌, ◌<◌, ◌^◌, None, Ok, Err, OnOk, OnErr, MatchResult};
 ghost use Rattle.std.specs.FinMap as map;
 ghost use Rattle.f2_format.specs.Geometry.{Extent};
 ghost use Rattle.f2_model.specs.Call.{new_row};
@@ -7,15 +7,15 @@ ghost use Rattle.f2_model.specs.Tree.{ROOT as root};
 ghost use Rattle.f2_model.specs.declared.replies.Space.TheVariants as space;
 ghost use Rattle.f2_model.specs.declared.rows.Kind.TheVariants as kind;
 ghost use Rattle.f2_flat.specs.Kept.{HasRootFiles, BindsNames, AreCounts};
-ghost use Rattle.f2_flat.specs.Steps.{AddsRow, MakesPlace, told_beyond, with_file};
+ghost use Rattle.f2_flat.specs.Steps.{IsGranted, MakesPlace, told_beyond, told_for_file, with_file};
 
 use crate::counts::Counts;
-use crate::rooms::data_refusal;
+use crate::rooms::grant_data;
 use crate::walks::{walk, walk_parent};
 use f2_dir::Dir;
 use f2_model::{Kind, Name, Pages, Path, Reply, Row, Space, Tree};
 use f2_plain_calls::ROOT;
-use std::alloc::{AllocError, Global};
+use std::alloc::Global;
 
 /// The name of a file that may be made at a path, which is the path's last, or the first refusal.
 pub(crate) fn place_for<'a>(tree: &Tree, names: &Dir, path: &'a Path) -> Result<&'a Name, Reply>
@@ -72,22 +72,18 @@ pub(crate) fn put_file(
     name: Name,
     counts: Counts,
     limit: u32,
-) -> Result<Option<Reply>, AllocError>
+) -> Result<(), Reply>
     requires free { map.get tree.old ino ≡ None }
     requires files { HasRootFiles (with_file tree.old ino name) }
     requires counts { AreCounts (with_file tree.old ino name) counts }
-    ensures { AddsRow limit tree.old tree.new ino name result }
+    ensures granted { IsGranted (told_for_file tree.old ino name limit) result }
+    ensures added { OnOk result (tree.new ≡ with_file tree.old ino name) }
+    ensures kept { OnErr result (tree.new ≡ tree.old) }
 {
     tree.put(new_file(alloc, ino, name))?;
-    match data_refusal(alloc, tree, counts, 0, limit) {
-        Ok(None) => Ok(None),
-        Ok(Some(refusal)) => {
-            tree.remove(ino);
-            Ok(Some(refusal))
-        }
-        Err(error) => {
-            tree.remove(ino);
-            Err(error)
-        }
+    if let Err(refusal) = grant_data(alloc, tree, counts, 0, limit) {
+        tree.remove(ino);
+        return Err(refusal);
     }
+    Ok(())
 }

@@ -1,15 +1,16 @@
 //! Files in the root alone.
-ghost use Rattle.std.specs.Prelude.{◌≡◌, IfOk, None};
+ghost use Rattle.std.specs.Prelude.{◌≡◌, ◌⊎◌, IfOk, IfErr, OnOk, OnErr, None};
 ghost use Rattle.std.specs.FinMap as map;
+ghost use Rattle.f2_model.specs.declared.replies.Reply.TheVariants.{Done, Memory};
 ghost use Rattle.f2_laid.specs.Laid.{IsStorable};
 ghost use Rattle.f2_flat.specs.Flat.{IsFlat};
-ghost use Rattle.f2_flat.specs.Calls.{TakesFlat, AddsFile, WritesFile};
+ghost use Rattle.f2_flat.specs.Calls.{TakesFlat, IsAdded, IsKeptOut, written};
 ghost use Rattle.f2_flat.specs.Kept.{HasRootFiles};
-ghost use Rattle.f2_flat.specs.Steps.{AddsRow, with_file};
+ghost use Rattle.f2_flat.specs.Steps.{IsGranted, told_for_file, with_file};
 
 use crate::counts::{Counts, slots_of};
 use crate::creates::{node_refusal, place_for, put_file};
-use crate::rooms::data_refusal;
+use crate::rooms::grant_data;
 use crate::rows::is_flat;
 use crate::takes::{counts_of, names_of};
 use crate::writes::{file_for, put_pieces};
@@ -75,65 +76,51 @@ impl Files {
 
     /// Adds an empty file under the next ino, and gives that, or the first refusal. A refusal and want of memory leave
     /// the tree.
-    pub fn create(
-        &mut self,
-        geometry: &Geometry,
-        path: &Path,
-    ) -> Result<Result<u32, Reply>, AllocError>
+    pub fn create(&mut self, geometry: &Geometry, path: &Path) -> Result<u32, Reply>
         requires { IsFlat geometry.now self.old }
-        ensures added { AddsFile geometry.now self.old self.new path.now result }
+        ensures added { IfOk result (IsAdded geometry.now self.old self.new path.now) }
+        ensures refused { IfErr result (λ refused. (refused ≡ Memory) ⊎ IsKeptOut geometry.now self.old path.now refused) }
+        ensures kept { OnErr result (self.new ≡ self.old) }
         ensures flat { IsFlat geometry.now self.new }
     {
         let limit = geometry.cn();
-        let name = match place_for(&self.tree, &self.names, path) {
-            Ok(name) => name,
-            Err(refusal) => return Ok(Err(refusal)),
-        };
+        let name = place_for(&self.tree, &self.names, path)?;
         let rows = self.tree.len() as u32;
         if let Some(refusal) = node_refusal(rows, limit) {
-            return Ok(Err(refusal));
+            return Err(refusal);
         }
         let ino = rows + ROOT;
-        match self.add(ino, name, geometry.cd())? {
-            Some(refusal) => Ok(Err(refusal)),
-            None => Ok(Ok(ino)),
-        }
+        self.add(ino, name, geometry.cd())?;
+        Ok(ino)
     }
 
     /// Puts pieces into a file one after another, or gives the first refusal. A refusal and want of memory leave the tree.
-    pub fn write(
-        &mut self,
-        geometry: &Geometry,
-        path: &Path,
-        pieces: &[Piece],
-    ) -> Result<Reply, AllocError>
+    pub fn write(&mut self, geometry: &Geometry, path: &Path, pieces: &[Piece]) -> Result<(), Reply>
         requires { IsFlat geometry.now self.old }
-        ensures wrote { WritesFile geometry.now self.old self.new path.now pieces.now result }
+        ensures wrote { OnOk result ((Done, self.new) ≡ written geometry.now self.old path.now pieces.now) }
+        ensures refused { IfErr result (λ refused. (refused ≡ Memory) ⊎ ((refused, self.old) ≡ written geometry.now self.old path.now pieces.now)) }
+        ensures kept { OnErr result (self.new ≡ self.old) }
         ensures flat { IsFlat geometry.now self.new }
     {
         let limit = geometry.cd();
-        let row = match file_for(&self.tree, &self.names, path, pieces) {
-            Ok(row) => row,
-            Err(refusal) => return Ok(refusal),
-        };
+        let row = file_for(&self.tree, &self.names, path, pieces)?;
         let ino = row.ino;
         let fresh = fresh(self.alloc, &row.pages, pieces)?;
         let more = fresh.len() as u64;
-        let refused = data_refusal(self.alloc, &self.tree, self.counts, more, limit)?;
-        if let Some(refusal) = refused {
-            return Ok(refusal);
-        }
+        grant_data(self.alloc, &self.tree, self.counts, more, limit)?;
         put_pieces(self.alloc, &mut self.tree, ino, pieces, &fresh)?;
         self.counts.pages += more;
-        Ok(Reply::Done)
+        Ok(())
     }
 
     /// Adds an empty file in the root, or tells the refusal where its data blocks are more than are granted. Then, and
     /// where memory is refused, the tree stays.
-    fn add(&mut self, ino: u32, name: &Name, limit: u32) -> Result<Option<Reply>, AllocError>
+    fn add(&mut self, ino: u32, name: &Name, limit: u32) -> Result<(), Reply>
         requires free { map.get self.old ino ≡ None }
         requires files { HasRootFiles (with_file self.old ino name.now) }
-        ensures { AddsRow limit self.old self.new ino name.now result }
+        ensures granted { IsGranted (told_for_file self.old ino name.now limit) result }
+        ensures added { OnOk result (self.new ≡ with_file self.old ino name.now) }
+        ensures kept { OnErr result (self.new ≡ self.old) }
     {
         let row_name = name.copy(self.alloc)?;
         let dir_name = name.copy(self.alloc)?;
@@ -141,14 +128,12 @@ impl Files {
             slots: self.counts.slots + slots_of(name),
             pages: self.counts.pages,
         };
-        if let Some(refusal) = put_file(self.alloc, &mut self.tree, ino, row_name, counts, limit)? {
-            return Ok(Some(refusal));
-        }
+        put_file(self.alloc, &mut self.tree, ino, row_name, counts, limit)?;
         if let Err(error) = self.names.put(dir_name, ino, Kind::Regular) {
             self.tree.remove(ino);
-            return Err(error);
+            return Err(Reply::from(error));
         }
         self.counts = counts;
-        Ok(None)
+        Ok(())
     }
 }

@@ -6,7 +6,7 @@
 //!
 //! What the layer above uses: contracts see [`Files`] as the tree alone. Whatever is taken is flat, by `IsFlat`, and stays
 //! so; [`Files::create`] and [`Files::write`] come to what the definitions of calls say, and leave the tree as it was where
-//! they refuse or memory is refused.
+//! they refuse. Want of memory is one refusal more, [`Reply::Memory`](f2_model::Reply::Memory).
 //!
 //! `specs/Flat` says which trees these are, `specs/Calls` what the calls come to, `specs/Kept` what is kept beside a tree,
 //! and `specs/Steps` what the steps of a call come to.

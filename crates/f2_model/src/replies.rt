@@ -3,6 +3,7 @@ ghost use Rattle.std.specs.Prelude.{◌≡◌};
 ghost use Rattle.f2_model.specs.Step.{outcome_of};
 
 use crate::lists::{Bytes, Items, Names};
+use std::alloc::AllocError;
 
 /// A zone of the image whose blocks a call may lack.
 #[derive(Clone, Copy, Debug, PartialEq, Eq)]
@@ -95,6 +96,16 @@ impl Reply {
             Reply::WriteFault => Outcome::WriteFault,
             Reply::Memory => Outcome::Memory,
         }
+    }
+}
+
+impl From<AllocError> for Reply {
+    ghost use Rattle.f2_model.specs.declared.replies.Reply.TheVariants.{Memory};
+
+    ghost from_gives = { λ _ reply. reply ≡ Memory };
+
+    fn from(_error: AllocError) -> Reply {
+        Reply::Memory
     }
 }
 

@@ -1,8 +1,8 @@
-use Rattle.std.proofs.Common.{◌≡◌, Ok, length, subst, ap, ◌∙◌, arith}
+use Rattle.std.proofs.Common.{◌≡◌, Ok, length, refl, subst, ap, ◌∙◌, arith}
 use Rattle.f2_format.specs.Geometry.{nid_limit}
 use Rattle.f2_flat.specs.Steps.{FindsFile, with_pieces}
 use Rattle.f2_flat.proofs.FlatTrees.{data_third_small}
-use Rattle.f2_flat.proofs.Written.{pieces_within, takes, write_refused, write_done, write_flat, write_few, write_kept}
+use Rattle.f2_flat.proofs.Written.{pieces_within, takes, write_out, write_done, write_flat, write_few, write_kept}
 use Rattle.f2_flat.proofs.files.Files.write.Goals as goal
 
 pub fresh-requires : goal.fresh-requires
@@ -11,20 +11,20 @@ fresh-requires c =
     let tree = c.args.self.now in
     let path = c.args.path.now in
     let pieces = c.args.pieces.now in
-    let row = c.in-Ok.row.now in
-    let finds : FindsFile extent tree path pieces (Ok row) = subst (λ t. FindsFile extent t path pieces (Ok row)) c.self.view_is (c.in-Ok.ensures extent) in
+    let row = c.in_ok-row.row.now in
+    let finds : FindsFile extent tree path pieces (Ok row) = subst (λ t. FindsFile extent t path pieces (Ok row)) c.self.view_is (c.in_ok-row.ensures extent) in
     pieces_within extent c.cd-limit.ensures.sound tree c.requires path pieces row finds
 
-pub returns-in-Some-clause-wrote : goal.returns-in-Some-clause-wrote
-returns-in-Some-clause-wrote c =
+pub returns-in_err-grant_data-clause-refused : goal.returns-in_err-grant_data-clause-refused
+returns-in_err-grant_data-clause-refused c =
     let extent = c.args.geometry.now in
     let tree = c.args.self.now in
     let path = c.args.path.now in
     let pieces = c.args.pieces.now in
-    let row = c.in-Ok.row.now in
+    let row = c.in_ok-row.row.now in
     let count : c.len-more.result ≡ length c.in_ok-fresh.fresh.items = omega (arith, c.in_ok-fresh.fresh.ok.0) in
-    let finds : FindsFile extent tree path pieces (Ok row) = subst (λ t. FindsFile extent t path pieces (Ok row)) c.self.view_is (c.in-Ok.ensures extent) in
-    write_refused extent c.cd-limit.ensures.sound tree c.requires path pieces row finds c.len-more.result c.cd-limit.result _ c.in_ok-fresh.ensures.grows count c.cd-limit.ensures.value c.self.inside.tree c.self.view_is c.in_ok-refused.refused (c.in_ok-refused.ensures) (nid_limit extent) c.in-Some.refusal c.in-Some.is
+    let finds : FindsFile extent tree path pieces (Ok row) = subst (λ t. FindsFile extent t path pieces (Ok row)) c.self.view_is (c.in_ok-row.ensures extent) in
+    write_out extent c.cd-limit.ensures.sound tree c.requires path pieces row finds c.len-more.result c.cd-limit.result _ c.in_ok-fresh.ensures.grows count c.cd-limit.ensures.value c.self.inside.tree c.self.view_is _ refl (nid_limit extent) _ _ c.from_residual-in_err-grant_data.ensures.1 c.in_err-grant_data.ensures
 
 pub put_pieces-requires : goal.put_pieces-requires
 put_pieces-requires c =
@@ -32,8 +32,8 @@ put_pieces-requires c =
     let tree = c.args.self.now in
     let path = c.args.path.now in
     let pieces = c.args.pieces.now in
-    let row = c.in-Ok.row.now in
-    let finds : FindsFile extent tree path pieces (Ok row) = subst (λ t. FindsFile extent t path pieces (Ok row)) c.self.view_is (c.in-Ok.ensures extent) in
+    let row = c.in_ok-row.row.now in
+    let finds : FindsFile extent tree path pieces (Ok row) = subst (λ t. FindsFile extent t path pieces (Ok row)) c.self.view_is (c.in_ok-row.ensures extent) in
     (row, takes extent c.cd-limit.ensures.sound tree c.requires path pieces row finds c.self.inside.tree c.deref.result.now c.in_ok-fresh.fresh.items c.self.view_is c.deref.ensures.value c.in_ok-fresh.ensures.fresh)
 
 pub overflow_add-self : goal.overflow_add-self
@@ -42,10 +42,10 @@ overflow_add-self c =
     let tree = c.args.self.now in
     let path = c.args.path.now in
     let pieces = c.args.pieces.now in
-    let row = c.in-Ok.row.now in
+    let row = c.in_ok-row.row.now in
     let count : c.len-more.result ≡ length c.in_ok-fresh.fresh.items = omega (arith, c.in_ok-fresh.fresh.ok.0) in
-    let finds : FindsFile extent tree path pieces (Ok row) = subst (λ t. FindsFile extent t path pieces (Ok row)) c.self.view_is (c.in-Ok.ensures extent) in
-    let few = write_few extent c.cd-limit.ensures.sound tree c.requires path pieces row finds c.len-more.result c.cd-limit.result _ c.in_ok-fresh.ensures.grows count c.cd-limit.ensures.value c.self.inside.tree c.self.view_is c.in_ok-refused.refused (c.in_ok-refused.ensures) c.self.inside.counts c.self.invariant.counted c.in_default.is in
+    let finds : FindsFile extent tree path pieces (Ok row) = subst (λ t. FindsFile extent t path pieces (Ok row)) c.self.view_is (c.in_ok-row.ensures extent) in
+    let few = write_few extent c.cd-limit.ensures.sound tree c.requires path pieces row finds c.len-more.result c.cd-limit.result _ c.in_ok-fresh.ensures.grows count c.cd-limit.ensures.value c.self.inside.tree c.self.view_is _ refl c.self.inside.counts c.self.invariant.counted c.in_ok-grant_data.ensures in
     let small = data_third_small extent c.cd-limit.ensures.sound in
     omega (arith, few, small)
 
@@ -55,12 +55,12 @@ invariant_of-self-2 c =
     let tree = c.args.self.now in
     let path = c.args.path.now in
     let pieces = c.args.pieces.now in
-    let row = c.in-Ok.row.now in
+    let row = c.in_ok-row.row.now in
     let count : c.len-more.result ≡ length c.in_ok-fresh.fresh.items = omega (arith, c.in_ok-fresh.fresh.ok.0) in
-    let finds : FindsFile extent tree path pieces (Ok row) = subst (λ t. FindsFile extent t path pieces (Ok row)) c.self.view_is (c.in-Ok.ensures extent) in
+    let finds : FindsFile extent tree path pieces (Ok row) = subst (λ t. FindsFile extent t path pieces (Ok row)) c.self.view_is (c.in_ok-row.ensures extent) in
     let took = takes extent c.cd-limit.ensures.sound tree c.requires path pieces row finds c.self.inside.tree c.deref.result.now c.in_ok-fresh.fresh.items c.self.view_is c.deref.ensures.value c.in_ok-fresh.ensures.fresh in
     let new = c.in_ok-put_pieces.ensures.ok row took.there ∙ ap (λ t. with_pieces t row pieces) c.self.view_is in
-    write_kept extent c.cd-limit.ensures.sound tree c.requires path pieces row finds c.len-more.result c.cd-limit.result _ c.in_ok-fresh.ensures.grows count c.cd-limit.ensures.value c.self.inside.tree c.self.view_is c.in_ok-refused.refused (c.in_ok-refused.ensures) c.put_pieces.new.tree c.self.inside.names c.self.inside.counts c.self.invariant new
+    write_kept extent c.cd-limit.ensures.sound tree c.requires path pieces row finds c.len-more.result c.cd-limit.result _ c.in_ok-fresh.ensures.grows count c.cd-limit.ensures.value c.self.inside.tree c.self.view_is _ refl c.put_pieces.new.tree c.self.inside.names c.self.inside.counts c.self.invariant new
 
 pub returns-clause-wrote : goal.returns-clause-wrote
 returns-clause-wrote c =
@@ -68,12 +68,12 @@ returns-clause-wrote c =
     let tree = c.args.self.now in
     let path = c.args.path.now in
     let pieces = c.args.pieces.now in
-    let row = c.in-Ok.row.now in
+    let row = c.in_ok-row.row.now in
     let count : c.len-more.result ≡ length c.in_ok-fresh.fresh.items = omega (arith, c.in_ok-fresh.fresh.ok.0) in
-    let finds : FindsFile extent tree path pieces (Ok row) = subst (λ t. FindsFile extent t path pieces (Ok row)) c.self.view_is (c.in-Ok.ensures extent) in
+    let finds : FindsFile extent tree path pieces (Ok row) = subst (λ t. FindsFile extent t path pieces (Ok row)) c.self.view_is (c.in_ok-row.ensures extent) in
     let took = takes extent c.cd-limit.ensures.sound tree c.requires path pieces row finds c.self.inside.tree c.deref.result.now c.in_ok-fresh.fresh.items c.self.view_is c.deref.ensures.value c.in_ok-fresh.ensures.fresh in
     let new = c.in_ok-put_pieces.ensures.ok row took.there ∙ ap (λ t. with_pieces t row pieces) c.self.view_is in
-    write_done extent c.cd-limit.ensures.sound tree c.requires path pieces row finds c.len-more.result c.cd-limit.result _ c.in_ok-fresh.ensures.grows count c.cd-limit.ensures.value c.self.inside.tree c.self.view_is c.in_ok-refused.refused (c.in_ok-refused.ensures) (nid_limit extent) c.put_pieces.new.tree c.in_default.is new
+    write_done extent c.cd-limit.ensures.sound tree c.requires path pieces row finds c.len-more.result c.cd-limit.result _ c.in_ok-fresh.ensures.grows count c.cd-limit.ensures.value c.self.inside.tree c.self.view_is _ refl (nid_limit extent) c.put_pieces.new.tree c.in_ok-grant_data.ensures new
 
 pub returns-clause-flat : goal.returns-clause-flat
 returns-clause-flat c =
@@ -81,9 +81,9 @@ returns-clause-flat c =
     let tree = c.args.self.now in
     let path = c.args.path.now in
     let pieces = c.args.pieces.now in
-    let row = c.in-Ok.row.now in
+    let row = c.in_ok-row.row.now in
     let count : c.len-more.result ≡ length c.in_ok-fresh.fresh.items = omega (arith, c.in_ok-fresh.fresh.ok.0) in
-    let finds : FindsFile extent tree path pieces (Ok row) = subst (λ t. FindsFile extent t path pieces (Ok row)) c.self.view_is (c.in-Ok.ensures extent) in
+    let finds : FindsFile extent tree path pieces (Ok row) = subst (λ t. FindsFile extent t path pieces (Ok row)) c.self.view_is (c.in_ok-row.ensures extent) in
     let took = takes extent c.cd-limit.ensures.sound tree c.requires path pieces row finds c.self.inside.tree c.deref.result.now c.in_ok-fresh.fresh.items c.self.view_is c.deref.ensures.value c.in_ok-fresh.ensures.fresh in
     let new = c.in_ok-put_pieces.ensures.ok row took.there ∙ ap (λ t. with_pieces t row pieces) c.self.view_is in
-    write_flat extent c.cd-limit.ensures.sound tree c.requires path pieces row finds c.len-more.result c.cd-limit.result _ c.in_ok-fresh.ensures.grows count c.cd-limit.ensures.value c.self.inside.tree c.self.view_is c.in_ok-refused.refused (c.in_ok-refused.ensures) c.put_pieces.new.tree c.in_default.is new
+    write_flat extent c.cd-limit.ensures.sound tree c.requires path pieces row finds c.len-more.result c.cd-limit.result _ c.in_ok-fresh.ensures.grows count c.cd-limit.ensures.value c.self.inside.tree c.self.view_is _ refl c.put_pieces.new.tree c.in_ok-grant_data.ensures new
