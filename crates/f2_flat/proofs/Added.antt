@@ -7,26 +7,27 @@ use Rattle.f2_format.specs.Geometry.{Extent, IsGeometry, node_third, data_third}
 use Rattle.f2_model.specs.Tree.{Rows, ROOT, last_name}
 use Rattle.f2_model.specs.Count.{data_of_tree}
 use Rattle.f2_model.specs.Call.{refusal}
+use Rattle.f2_model.specs.declared.requests.Request.{Request}
 use Rattle.f2_model.specs.declared.requests.Request.TheVariants.{Create}
 use Rattle.f2_model.specs.declared.replies.Reply.{Reply}
 use Rattle.f2_model.specs.declared.replies.Reply.TheVariants.{Memory}
 use Rattle.f2_model.specs.declared.replies.Space.TheVariants.{Node, Data}
 use Rattle.f2_flat.specs.Flat.{IsFlat, limits_of}
-use Rattle.f2_flat.specs.Calls.{IsAdded, IsKeptOut}
+use Rattle.f2_flat.specs.Calls.{IsAdded, IsRefused}
 use Rattle.f2_flat.specs.Kept.{HasRootFiles}
 use Rattle.f2_flat.specs.Steps.{MakesPlace, told_beyond, with_file}
 use Rattle.f2_flat.proofs.Grown.{next_free, files_grown, nodes_spent, space_told, flat_grown, added}
 use Rattle.f2_flat.proofs.Told.{told_some, some_past, none_within, passed_on}
 
--- the path has no place for a file
-pub path_out : {X : Type 0} (extent : Extent) (inside tree : Rows) (path : List (List ℕ)) (result : Result X Reply) (came : Reply) → inside ≡ tree → IsErrAnd result (λ e. e ≡ came)
-    → refusal (limits_of extent) inside (Create path) ≡ Some came → IfErr result (λ refused. (refused ≡ Memory) ⊎ IsKeptOut extent tree path refused)
-path_out extent inside tree path result came inside_is is out =
-    passed_on result came (λ refused. (refused ≡ Memory) ⊎ IsKeptOut extent tree path refused) is (inr (inl (subst (λ t. refusal (limits_of extent) t (Create path) ≡ Some came) inside_is out)))
+-- a call is refused by its path, the tree and its numbers
+pub refused_at_once : {X : Type 0} (extent : Extent) (inside tree : Rows) (request : Request) (result : Result X Reply) (came : Reply) → inside ≡ tree → IsErrAnd result (λ e. e ≡ came)
+    → refusal (limits_of extent) inside request ≡ Some came → IfErr result (λ refused. (refused ≡ Memory) ⊎ IsRefused extent tree request refused)
+refused_at_once extent inside tree request result came inside_is is out =
+    passed_on result came (λ refused. (refused ≡ Memory) ⊎ IsRefused extent tree request refused) is (inr (inl (subst (λ t. refusal (limits_of extent) t request ≡ Some came) inside_is out)))
 
 module _ (extent : Extent) (geometry : IsGeometry extent) (tree : Rows) (flat : IsFlat extent tree) (path : List (List ℕ)) (name : List ℕ) (place : MakesPlace extent tree path (Ok name)) (rows nodes : ℕ) (rows_is : rows ≡ map.len tree) (nodes_is : nodes ≡ node_third extent) where
   -- no node is left
-  pub node_out : (refused : Reply) → Some refused ≡ told_beyond Node (rows + 1) nodes → IsKeptOut extent tree path refused
+  pub node_out : (refused : Reply) → Some refused ≡ told_beyond Node (rows + 1) nodes → IsRefused extent tree (Create path) refused
   node_out refused told =
       let same : told_beyond Node (rows + 1) nodes ≡ told_beyond Node (map.len tree + 1) (node_third extent) = λ i. told_beyond Node (rows_is i + 1) (nodes_is i) in
       let full : node_third extent < map.len tree + 1 = some_past Node (map.len tree + 1) (node_third extent) refused (told ∙ same) in
@@ -52,12 +53,12 @@ module _ (extent : Extent) (geometry : IsGeometry extent) (tree : Rows) (flat : 
     due = (λ i. told_beyond Data (data_of_tree (sym grew_is i)) (sym blocks_is i)) ∙ sym told_is
 
     -- no data block is left
-    pub data_out : (refused : Reply) → told ≡ Some refused → IsKeptOut extent tree path refused
+    pub data_out : (refused : Reply) → told ≡ Some refused → IsRefused extent tree (Create path) refused
     data_out refused some = inr (place.0, space_told extent geometry tree flat path place.0 fits ∙ due ∙ some)
 
     pub row_out : {X : Type 0} (result : Result X Reply) (came : Reply) → IsErrAnd result (λ e. e ≡ came) → (came ≡ Memory) ⊎ (told ≡ Some came)
-        → IfErr result (λ refused. (refused ≡ Memory) ⊎ IsKeptOut extent tree path refused)
-    row_out result came is why = passed_on result came (λ refused. (refused ≡ Memory) ⊎ IsKeptOut extent tree path refused) is (elim why [
+        → IfErr result (λ refused. (refused ≡ Memory) ⊎ IsRefused extent tree (Create path) refused)
+    row_out result came is why = passed_on result came (λ refused. (refused ≡ Memory) ⊎ IsRefused extent tree (Create path) refused) is (elim why [
       | inl memory ↦ inl memory
       | inr some ↦ inr (data_out came some)
     ])

@@ -15,13 +15,13 @@ use Rattle.f2_model.specs.Content.{end_of, put_pieces, raised_size}
 use Rattle.f2_model.specs.Count.{dentry_blocks, data_of_tree}
 use Rattle.f2_model.specs.Rising.{rising}
 use Rattle.f2_model.specs.Tree.{Rows, ROOT, IsGoodTree, names_in, walk}
-use Rattle.f2_model.specs.Call.{refusal, space_refusal, effect, on_row, outcome, or_refused}
+use Rattle.f2_model.specs.Call.{refusal, space_refusal, effect, on_row}
 use Rattle.f2_model.specs.declared.rows.Row.{Row}
 use Rattle.f2_model.specs.declared.rows.Kind.TheVariants.{Regular}
 use Rattle.f2_model.specs.declared.requests.Piece.{Piece}
 use Rattle.f2_model.specs.declared.requests.Request.TheVariants.{Write}
 use Rattle.f2_model.specs.declared.replies.Reply.{Reply}
-use Rattle.f2_model.specs.declared.replies.Reply.TheVariants.{Done, Memory}
+use Rattle.f2_model.specs.declared.replies.Reply.TheVariants.{Memory}
 use Rattle.f2_model.specs.declared.replies.Space.TheVariants.{Data}
 use Rattle.f2_laws.proofs.Calls.{effect_good}
 use Rattle.f2_laws.proofs.Contents.{raised_within, raised_ends}
@@ -34,6 +34,7 @@ use Rattle.f2_dir.specs.Entries.{Entries}
 use Rattle.f2_pieces.specs.Fresh.{EndWithin, fresh_pages}
 use Rattle.f2_plain_calls.specs.Given.{MOST_SIZE}
 use Rattle.f2_flat.specs.Flat.{IsFlat, IsRootFile, FILE_SIZE, limits_of}
+use Rattle.f2_flat.specs.Calls.{IsRefused, IsWritten}
 use Rattle.f2_flat.specs.Kept.{HasRootFiles, BindsNames, AreCounts, IsKept, slots_of_row, slots_of_tree, pages_of_row, pages_of_tree}
 use Rattle.f2_flat.specs.Steps.{FindsFile, TakesPieces, told_beyond, row_with, with_pieces}
 use Rattle.f2_flat.specs.declared.counts.Counts.{Counts}
@@ -157,12 +158,9 @@ module _ (extent : Extent) (geometry : IsGeometry extent) (tree : Rows) (flat : 
           let fits = flat.fits in
           space_by_data extent (with_pieces tree row pieces) (omega (arith, nodes, len, fits)) ∙ ap (λ need. told_beyond Data need (data_third extent)) data_written
 
-      -- what the write comes to, where it is refused for want of space and where it isn't
-      pub outcome_told : (ino : ℕ) (told : Option Reply) → told ≡ told_beyond Data (data_of_tree tree + more) (data_third extent) → outcome (limits_of extent) tree (Write path pieces) ino ≡ or_refused tree told (Done, with_pieces tree row pieces)
-      outcome_told ino told is =
-          ap (λ after. or_refused tree (refusal (limits_of extent) tree (Write path pieces)) (or_refused tree (space_refusal (limits_of extent) after) (Done, after))) (written_is ino)
-          ∙ ap (λ first. or_refused tree first (or_refused tree (space_refusal (limits_of extent) (with_pieces tree row pieces)) (Done, with_pieces tree row pieces))) none
-          ∙ ap (λ second. or_refused tree second (Done, with_pieces tree row pieces)) (space_written ∙ sym is)
+      -- the refusal of the tree after it
+      pub space_told : (ino : ℕ) → space_refusal (limits_of extent) (effect tree (Write path pieces) ino) ≡ told_beyond Data (data_of_tree tree + more) (data_third extent)
+      space_told ino = ap (λ after. space_refusal (limits_of extent) after) (written_is ino) ∙ space_written
 
       pub flat_written : told_beyond Data (data_of_tree tree + more) (data_third extent) ≡ None → IsFlat extent (with_pieces tree row pieces)
       flat_written room = record {
@@ -180,16 +178,7 @@ module _ (extent : Extent) (geometry : IsGeometry extent) (tree : Rows) (flat : 
           dense ino one (inl same) = kept ino (map.len (with_pieces tree row pieces)) (length-written tree row row_there pieces) (flat.dense ino row (ap (λ i. map.get tree i) same.0 ∙ row_there))
           dense ino one (inr was) = kept ino (map.len (with_pieces tree row pieces)) (length-written tree row row_there pieces) (flat.dense ino one was.1)
 
--- a write that is refused by its path or its pieces
-pub outcome_refused : (extent : Extent) (tree : Rows) (path : List (List ℕ)) (pieces : List Piece) (ino : ℕ) (refused : Reply) → refusal (limits_of extent) tree (Write path pieces) ≡ Some refused → outcome (limits_of extent) tree (Write path pieces) ino ≡ (refused, tree)
-outcome_refused extent tree path pieces ino refused is =
-    let after = effect tree (Write path pieces) ino in
-    ap (λ first. or_refused tree first (or_refused tree (space_refusal (limits_of extent) after) (Done, after))) is
-
 -- What a write comes to, step by step.
-
-abbrev done_with : Rows → Reply × Rows
-done_with tree = (Done, tree)
 
 module _ (extent : Extent) (geometry : IsGeometry extent) (tree : Rows) (flat : IsFlat extent tree) (path : List (List ℕ)) (pieces : List Piece) (row : Row) (finds : FindsFile extent tree path pieces (Ok row)) where
   pub pieces_within : EndWithin pieces
@@ -210,21 +199,22 @@ module _ (extent : Extent) (geometry : IsGeometry extent) (tree : Rows) (flat : 
     due : told ≡ told_beyond Data (data_of_tree tree + more) (data_third extent)
     due = told_is ∙ (λ i. told_beyond Data (data_of_tree (inside_is i) + more) (limit_is i))
 
-    pub write_refused : (ino : ℕ) (refused : Reply) → told ≡ Some refused → ◌≡◌ {A = Reply × Rows} (refused, tree) (outcome (limits_of extent) tree (Write path pieces) ino)
-    write_refused ino refused some =
-        sym (outcome_told extent geometry tree flat path pieces finds.0 row finds.1 more grown ino told due ∙ ap (λ o. or_refused tree o (Done, with_pieces tree row pieces)) some)
+    space : space_refusal (limits_of extent) (effect tree (Write path pieces) (limits_of extent).nids) ≡ told
+    space = space_told extent geometry tree flat path pieces finds.0 row finds.1 more grown (limits_of extent).nids ∙ sym due
 
-    pub write_out : {X : Type 0} (ino : ℕ) (result : Result X Reply) (came : Reply) → IsErrAnd result (λ e. e ≡ came) → (came ≡ Memory) ⊎ (told ≡ Some came)
-        → IfErr result (λ refused. (refused ≡ Memory) ⊎ ◌≡◌ {A = Reply × Rows} (refused, tree) (outcome (limits_of extent) tree (Write path pieces) ino))
-    write_out ino result came is why = passed_on result came (λ refused. (refused ≡ Memory) ⊎ ◌≡◌ {A = Reply × Rows} (refused, tree) (outcome (limits_of extent) tree (Write path pieces) ino)) is (elim why [
+    pub write_out : {X : Type 0} (result : Result X Reply) (came : Reply) → IsErrAnd result (λ e. e ≡ came) → (came ≡ Memory) ⊎ (told ≡ Some came)
+        → IfErr result (λ refused. (refused ≡ Memory) ⊎ IsRefused extent tree (Write path pieces) refused)
+    write_out result came is why = passed_on result came (λ refused. (refused ≡ Memory) ⊎ IsRefused extent tree (Write path pieces) refused) is (elim why [
       | inl memory ↦ inl memory
-      | inr some ↦ inr (write_refused ino came some)
+      | inr some ↦ inr (inr (finds.0, space ∙ some))
     ])
 
-    pub write_done : (ino : ℕ) (new : Rows) → told ≡ None → new ≡ with_pieces tree row pieces → ◌≡◌ {A = Reply × Rows} (Done, new) (outcome (limits_of extent) tree (Write path pieces) ino)
-    write_done ino new none is =
-        ap (λ (t : Rows). done_with t) is
-        ∙ sym (outcome_told extent geometry tree flat path pieces finds.0 row finds.1 more grown ino told due ∙ ap (λ o. or_refused tree o (Done, with_pieces tree row pieces)) none)
+    pub write_done : (new : Rows) → told ≡ None → new ≡ with_pieces tree row pieces → IsWritten extent tree new path pieces
+    write_done new none is = record {
+      none = finds.0;
+      space = space ∙ none;
+      tree = is ∙ sym (written_is extent geometry tree flat path pieces finds.0 row finds.1 (limits_of extent).nids);
+    }
 
     pub write_flat : (new : Rows) → told ≡ None → new ≡ with_pieces tree row pieces → IsFlat extent new
     write_flat new none is = subst (IsFlat extent) (sym is) (flat_written extent geometry tree flat path pieces finds.0 row finds.1 more grown (sym due ∙ none))

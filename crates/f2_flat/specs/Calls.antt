@@ -3,9 +3,10 @@ use Rattle.std.specs.Prelude.{◌≡◌, ◌⊎◌, ℕ, ◌+◌, ◌≤◌, Lis
 use Rattle.std.specs.FinMap as map
 use Rattle.f2_format.specs.Geometry.{Extent, node_third}
 use Rattle.f2_model.specs.Tree.{Rows, ROOT}
-use Rattle.f2_model.specs.Call.{effect, outcome, refusal, space_refusal}
+use Rattle.f2_model.specs.Call.{effect, refusal, space_refusal}
 use Rattle.f2_model.specs.declared.replies.Reply.{Reply}
 use Rattle.f2_model.specs.declared.requests.Piece.{Piece}
+use Rattle.f2_model.specs.declared.requests.Request.{Request}
 use Rattle.f2_model.specs.declared.requests.Request.TheVariants.{Create, Write}
 use Rattle.f2_flat.specs.Flat.{IsFlat, limits_of}
 
@@ -18,11 +19,12 @@ TakesFlat extent tree None = ¬ (IsFlat extent tree)
 abbrev pub grown : Rows → List (List ℕ) → ℕ → Rows
 grown tree path ino = effect tree (Create path) ino
 
--- why a file wasn't added: a refusal by its path, or want of space
-abbrev pub IsKeptOut : Extent → Rows → List (List ℕ) → Reply → Type 0
-IsKeptOut extent tree path refused =
-    (refusal (limits_of extent) tree (Create path) ≡ Some refused)
-    ⊎ ((refusal (limits_of extent) tree (Create path) ≡ None) × (space_refusal (limits_of extent) (grown tree path (limits_of extent).nids) ≡ Some refused))
+-- why a call is refused: by its path, the tree and its numbers, or for want of space; no number is given to a row, so the one
+-- past the last stands for it
+abbrev pub IsRefused : Extent → Rows → Request → Reply → Type 0
+IsRefused extent tree request refused =
+    (refusal (limits_of extent) tree request ≡ Some refused)
+    ⊎ ((refusal (limits_of extent) tree request ≡ None) × (space_refusal (limits_of extent) (effect tree request (limits_of extent).nids) ≡ Some refused))
 
 -- a file was added under this number, the one after the tree's last
 pub record IsAdded (extent : Extent) (old new : Rows) (path : List (List ℕ)) (ino : ℕ) : Type 0 where
@@ -32,6 +34,8 @@ pub record IsAdded (extent : Extent) (old new : Rows) (path : List (List ℕ)) (
   pub fits : map.len old + 1 ≤ node_third extent
   pub tree : new ≡ grown old path ino
 
--- the reply and the tree that are due to a write; no number is given to a row, so the one past the last stands for it
-abbrev pub written : Extent → Rows → List (List ℕ) → List Piece → Reply × Rows
-written extent tree path pieces = outcome (limits_of extent) tree (Write path pieces) (limits_of extent).nids
+-- pieces were put into a file
+pub record IsWritten (extent : Extent) (old new : Rows) (path : List (List ℕ)) (pieces : List Piece) : Type 0 where
+  pub none : refusal (limits_of extent) old (Write path pieces) ≡ None
+  pub space : space_refusal (limits_of extent) (effect old (Write path pieces) (limits_of extent).nids) ≡ None
+  pub tree : new ≡ effect old (Write path pieces) (limits_of extent).nids

@@ -1,10 +1,11 @@
 //! Files in the root alone.
 ghost use Rattle.std.specs.Prelude.{◌≡◌, ◌⊎◌, IfOk, IfErr, OnOk, OnErr, None};
 ghost use Rattle.std.specs.FinMap as map;
-ghost use Rattle.f2_model.specs.declared.replies.Reply.TheVariants.{Done, Memory};
+ghost use Rattle.f2_model.specs.declared.replies.Reply.TheVariants.{Memory};
+ghost use Rattle.f2_model.specs.declared.requests.Request.TheVariants.{Create, Write};
 ghost use Rattle.f2_laid.specs.Laid.{IsStorable};
 ghost use Rattle.f2_flat.specs.Flat.{IsFlat};
-ghost use Rattle.f2_flat.specs.Calls.{TakesFlat, IsAdded, IsKeptOut, written};
+ghost use Rattle.f2_flat.specs.Calls.{TakesFlat, IsAdded, IsRefused, IsWritten};
 ghost use Rattle.f2_flat.specs.Kept.{HasRootFiles};
 ghost use Rattle.f2_flat.specs.Steps.{IsGranted, told_for_file, with_file};
 
@@ -79,7 +80,7 @@ impl Files {
     pub fn create(&mut self, geometry: &Geometry, path: &Path) -> Result<u32, Reply>
         requires { IsFlat geometry.now self.old }
         ensures added { IfOk result (IsAdded geometry.now self.old self.new path.now) }
-        ensures refused { IfErr result (λ refused. (refused ≡ Memory) ⊎ IsKeptOut geometry.now self.old path.now refused) }
+        ensures refused { IfErr result (λ refused. (refused ≡ Memory) ⊎ IsRefused geometry.now self.old (Create path.now) refused) }
         ensures kept { OnErr result (self.new ≡ self.old) }
         ensures flat { IsFlat geometry.now self.new }
     {
@@ -97,8 +98,8 @@ impl Files {
     /// Puts pieces into a file one after another, or gives the first refusal. A refusal and want of memory leave the tree.
     pub fn write(&mut self, geometry: &Geometry, path: &Path, pieces: &[Piece]) -> Result<(), Reply>
         requires { IsFlat geometry.now self.old }
-        ensures wrote { OnOk result ((Done, self.new) ≡ written geometry.now self.old path.now pieces.now) }
-        ensures refused { IfErr result (λ refused. (refused ≡ Memory) ⊎ ((refused, self.old) ≡ written geometry.now self.old path.now pieces.now)) }
+        ensures wrote { OnOk result (IsWritten geometry.now self.old self.new path.now pieces.now) }
+        ensures refused { IfErr result (λ refused. (refused ≡ Memory) ⊎ IsRefused geometry.now self.old (Write path.now pieces.now) refused) }
         ensures kept { OnErr result (self.new ≡ self.old) }
         ensures flat { IsFlat geometry.now self.new }
     {

@@ -1,11 +1,12 @@
 use Rattle.std.proofs.Common.{◌≡◌, Ok, inr, refl, sym, ap, ◌∙◌, subst}
 use Rattle.std.specs.FinMap as map
+use Rattle.f2_model.specs.declared.requests.Request.TheVariants.{Create}
 use Rattle.f2_flat.specs.Steps.{MakesPlace}
-use Rattle.f2_flat.proofs.Added.{path_out, node_out, files_more, next_is_free, row_out, row_added, flat_added}
+use Rattle.f2_flat.proofs.Added.{refused_at_once, node_out, files_more, next_is_free, row_out, row_added, flat_added}
 use Rattle.f2_flat.proofs.files.Files.create.Goals as goal
 
 pub returns-in_err-name-clause-refused : goal.returns-in_err-name-clause-refused
-returns-in_err-name-clause-refused c = path_out c.args.geometry.now _ _ c.args.path.now _ _ c.self.view_is c.from_residual.ensures.1 (c.in_err-name.ensures c.args.geometry.now)
+returns-in_err-name-clause-refused c = refused_at_once c.args.geometry.now _ _ (Create c.args.path.now) _ _ c.self.view_is c.from_residual.ensures.1 (c.in_err-name.ensures c.args.geometry.now)
 
 pub returns-in-Some-clause-refused : goal.returns-in-Some-clause-refused
 returns-in-Some-clause-refused c =

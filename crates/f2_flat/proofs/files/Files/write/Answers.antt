@@ -1,9 +1,13 @@
 use Rattle.std.proofs.Common.{◌≡◌, Ok, length, refl, subst, ap, ◌∙◌, arith}
-use Rattle.f2_format.specs.Geometry.{nid_limit}
+use Rattle.f2_model.specs.declared.requests.Request.TheVariants.{Write}
 use Rattle.f2_flat.specs.Steps.{FindsFile, with_pieces}
 use Rattle.f2_flat.proofs.FlatTrees.{data_third_small}
 use Rattle.f2_flat.proofs.Written.{pieces_within, takes, write_out, write_done, write_flat, write_few, write_kept}
+use Rattle.f2_flat.proofs.Added.{refused_at_once}
 use Rattle.f2_flat.proofs.files.Files.write.Goals as goal
+
+pub returns-in_err-row-clause-refused : goal.returns-in_err-row-clause-refused
+returns-in_err-row-clause-refused c = refused_at_once c.args.geometry.now _ _ (Write c.args.path.now c.args.pieces.now) _ _ c.self.view_is c.from_residual.ensures.1 (c.in_err-row.ensures c.args.geometry.now)
 
 pub fresh-requires : goal.fresh-requires
 fresh-requires c =
@@ -24,7 +28,7 @@ returns-in_err-grant_data-clause-refused c =
     let row = c.in_ok-row.row.now in
     let count : c.len-more.result ≡ length c.in_ok-fresh.fresh.items = omega (arith, c.in_ok-fresh.fresh.ok.0) in
     let finds : FindsFile extent tree path pieces (Ok row) = subst (λ t. FindsFile extent t path pieces (Ok row)) c.self.view_is (c.in_ok-row.ensures extent) in
-    write_out extent c.cd-limit.ensures.sound tree c.requires path pieces row finds c.len-more.result c.cd-limit.result _ c.in_ok-fresh.ensures.grows count c.cd-limit.ensures.value c.self.inside.tree c.self.view_is _ refl (nid_limit extent) _ _ c.from_residual-in_err-grant_data.ensures.1 c.in_err-grant_data.ensures
+    write_out extent c.cd-limit.ensures.sound tree c.requires path pieces row finds c.len-more.result c.cd-limit.result _ c.in_ok-fresh.ensures.grows count c.cd-limit.ensures.value c.self.inside.tree c.self.view_is _ refl _ _ c.from_residual-in_err-grant_data.ensures.1 c.in_err-grant_data.ensures
 
 pub put_pieces-requires : goal.put_pieces-requires
 put_pieces-requires c =
@@ -73,7 +77,7 @@ returns-clause-wrote c =
     let finds : FindsFile extent tree path pieces (Ok row) = subst (λ t. FindsFile extent t path pieces (Ok row)) c.self.view_is (c.in_ok-row.ensures extent) in
     let took = takes extent c.cd-limit.ensures.sound tree c.requires path pieces row finds c.self.inside.tree c.deref.result.now c.in_ok-fresh.fresh.items c.self.view_is c.deref.ensures.value c.in_ok-fresh.ensures.fresh in
     let new = c.in_ok-put_pieces.ensures.ok row took.there ∙ ap (λ t. with_pieces t row pieces) c.self.view_is in
-    write_done extent c.cd-limit.ensures.sound tree c.requires path pieces row finds c.len-more.result c.cd-limit.result _ c.in_ok-fresh.ensures.grows count c.cd-limit.ensures.value c.self.inside.tree c.self.view_is _ refl (nid_limit extent) c.put_pieces.new.tree c.in_ok-grant_data.ensures new
+    write_done extent c.cd-limit.ensures.sound tree c.requires path pieces row finds c.len-more.result c.cd-limit.result _ c.in_ok-fresh.ensures.grows count c.cd-limit.ensures.value c.self.inside.tree c.self.view_is _ refl c.put_pieces.new.tree c.in_ok-grant_data.ensures new
 
 pub returns-clause-flat : goal.returns-clause-flat
 returns-clause-flat c =
