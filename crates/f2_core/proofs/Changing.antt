@@ -21,10 +21,10 @@ use Rattle.f2_model.specs.declared.replies.Reply.TheVariants as reply
 use Rattle.f2_model.specs.declared.histories.Entry.{Entry}
 use Rattle.f2_model.specs.declared.histories.Entry.TheVariants as entry
 use Rattle.f2_flat.specs.Flat.{IsFlat, limits_of}
+use Rattle.f2_flat.specs.Calls.{IsRefused}
 use Rattle.f2_core.specs.Seen.{IsHeld, IsIn}
-use Rattle.f2_core.specs.Changes.{IsChange, IsChanged, IsRefused, TookEffect, by_refusal, in_place, by_new_row}
+use Rattle.f2_core.specs.Changes.{IsChange, IsChanged, TookEffect, in_place, by_new_row}
 use Rattle.f2_core.specs.Events.{ComesTo}
-use Rattle.f2_core.specs.declared.changes.Changed.{Changed}
 use Rattle.f2_core.specs.declared.volumes.Volume.{Volume}
 use Rattle.f2_core.proofs.Grown.{next_free}
 use Rattle.f2_core.proofs.Refusals.{change-refused, space-refused}
@@ -61,20 +61,10 @@ stays_else state (Create path) after is = itself state
 stays_else state (Write path pieces) after is = dirties state (Write path pieces) (walk state.live path) (walk after path)
 stays_else state _ after is = absurd is
 
--- a call that changes files tells no fault of the disk
-done_calm : (tree : Rows) (request : Request) → IsChange request → answer tree request ≢ reply.WriteFault
-done_calm tree (Create path) is = λ same. let bad : reply.Done ≡ reply.WriteFault = same in cc
-done_calm tree (Write path pieces) is = λ same. let bad : reply.Done ≡ reply.WriteFault = same in cc
-done_calm tree _ is = absurd is
-
-out_calm : (extent : Extent) (tree : Rows) (request : Request) → IsChange request → (told : Reply) → IsRefused extent tree request told → told ≢ reply.WriteFault
-out_calm extent tree request is told (inl stands) = change-refused (limits_of extent) tree request is told stands
-out_calm extent tree request is told (inr (passed, full)) = space-refused (limits_of extent) (effect tree request (limits_of extent).nids) told full
-
-pub changed-calm : (extent : Extent) (old new : Rows) (request : Request) (changed : Changed) → IsChange request → IsChanged extent old new request changed → changed.reply ≢ reply.WriteFault
-changed-calm extent old new request changed is (by_refusal out same none) = out_calm extent old request is changed.reply out
-changed-calm extent old new request changed is (in_place adds took len none) = λ same. done_calm old request is (sym took.reply ∙ same)
-changed-calm extent old new request changed is (by_new_row ino adds took len next fits chosen) = λ same. done_calm old request is (sym took.reply ∙ same)
+-- no refusal of a call that changes files tells a fault of the disk
+pub refused-calm : (extent : Extent) (tree : Rows) (request : Request) → IsChange request → (told : Reply) → IsRefused extent tree request told → told ≢ reply.WriteFault
+refused-calm extent tree request is told (inl stands) = change-refused (limits_of extent) tree request is told stands
+refused-calm extent tree request is told (inr (passed, full)) = space-refused (limits_of extent) (effect tree request (limits_of extent).nids) told full
 
 module _ (extent : Extent) (geometry : IsGeometry extent) (told : Option Contents) (volume : Volume) (before : History) (from : State) (is : IsIn extent told (Some volume) before from) (flat : IsFlat extent volume.files) where
   some_row : 1 ≤ map.len volume.files
@@ -153,7 +143,7 @@ module _ (extent : Extent) (geometry : IsGeometry extent) (told : Option Content
       abbrev other : Happening
       other = calmly (Begin seat request) (refused_turn from seat request said)
 
-      refuses : after.entries ≡ before.entries ++ entry.Did seat request (outcome_of said) ∷ [] → after.choices ≡ before.choices ++ []
+      pub refuses : after.entries ≡ before.entries ++ entry.Did seat request (outcome_of said) ∷ [] → after.choices ≡ before.choices ++ []
           → ComesTo (seen disk extent (Some volume) before) (seen disk extent (Some (record { files = new; stored = volume.stored })) after) told from (Begin seat request) (replied said)
       refuses entries choices =
           let longer = one_more before.entries after.entries (entry.Did seat request (outcome_of said)) entries in
@@ -178,12 +168,10 @@ module _ (extent : Extent) (geometry : IsGeometry extent) (told : Option Content
             held = is.held;
           })
 
-    pub changes : (new : Rows) (changed : Changed) → IsChanged extent volume.files new request changed
-        → after.entries ≡ before.entries ++ entry.Did seat request (outcome_of changed.reply) ∷ [] → after.choices ≡ before.choices ++ option_to_list changed.choice
-        → ComesTo (seen disk extent (Some volume) before) (seen disk extent (Some (record { files = new; stored = volume.stored })) after) told from (Begin seat request) (replied changed.reply)
-    changes new changed (by_refusal out same none) entries choices =
-        refuses new changed.reply out same entries (choices ∙ ap (λ o. before.choices ++ option_to_list o) none)
-    changes new changed (in_place adds took len none) entries choices =
-        takes new changed.reply 0 took (omega (arith, len)) [] (on_false (adds_row request) _ _ adds refl) entries (choices ∙ ap (λ o. before.choices ++ option_to_list o) none)
-    changes new changed (by_new_row ino adds took len next fits chosen) entries choices =
-        takes new changed.reply ino took (omega (arith, len)) (ino ∷ []) (on_true (adds_row request) _ _ adds (ino, free_ino ino next fits, refl)) entries (choices ∙ ap (λ o. before.choices ++ option_to_list o) chosen)
+    pub changes : (new : Rows) (choice : Option ℕ) → IsChanged extent volume.files new request choice
+        → after.entries ≡ before.entries ++ entry.Did seat request (outcome_of reply.Done) ∷ [] → after.choices ≡ before.choices ++ option_to_list choice
+        → ComesTo (seen disk extent (Some volume) before) (seen disk extent (Some (record { files = new; stored = volume.stored })) after) told from (Begin seat request) (replied reply.Done)
+    changes new choice (in_place adds took len none) entries choices =
+        takes new reply.Done 0 took (omega (arith, len)) [] (on_false (adds_row request) _ _ adds refl) entries (choices ∙ ap (λ o. before.choices ++ option_to_list o) none)
+    changes new choice (by_new_row ino adds took len next fits chosen) entries choices =
+        takes new reply.Done ino took (omega (arith, len)) (ino ∷ []) (on_true (adds_row request) _ _ adds (ino, free_ino ino next fits, refl)) entries (choices ∙ ap (λ o. before.choices ++ option_to_list o) chosen)

@@ -1,13 +1,35 @@
-//! What checkpoints and faults of the disk leave in the history.
+//! What calls, checkpoints and faults of the disk leave in the history.
 ghost use Rattle.std.specs.Prelude.{◌≡◌, ◌≢◌, ◌+◌, ◌<◌, ◌≤◌, ◌++◌, [], ◌∷◌, option_to_list};
+ghost use Rattle.f2_model.specs.Step.{outcome_of};
 ghost use Rattle.f2_model.specs.declared.histories.Entry.TheVariants as entry;
 ghost use Rattle.f2_model.specs.declared.replies.Plan.TheVariants as plan;
 ghost use Rattle.f2_model.specs.declared.events.MountRefusal.TheVariants.{BadImage, NoMemory};
 
-use f2_model::{CallKind, Entry, Format, Log, MountRefusal, NO_SEAT, Plan};
+use f2_model::{BoxedRequest, CallKind, Entry, Format, Log, MountRefusal, NO_SEAT, Plan, Reply};
 
 /// The format of the images that a core makes.
 const FORMAT: Format = Format::Two;
+
+/// Appends what a call left that was over at once, with this reply.
+pub(crate) fn add_did(
+    history: &mut Log,
+    seat: u8,
+    request: BoxedRequest,
+    reply: &Reply,
+    choice: Option<u32>,
+)
+    requires { 1 ≤ history.old.spare }
+    ensures entries { history.new.entries ≡ history.old.entries ++ entry.Did seat request (outcome_of reply.now) ∷ [] }
+    ensures choices { history.new.choices ≡ history.old.choices ++ option_to_list choice }
+    ensures spare { history.new.spare + 1 ≡ history.old.spare }
+{
+    let entry = Entry::Did {
+        seat,
+        request,
+        outcome: reply.outcome(),
+    };
+    history.add(entry, choice);
+}
 
 /// Appends what a call left that made its whole checkpoint: its own entry, then that the checkpoint began, wrote its
 /// tail and was done.

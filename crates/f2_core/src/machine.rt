@@ -15,9 +15,9 @@ ghost use Rattle.f2_core.specs.Changes.{IsChange};
 ghost use Rattle.f2_core.specs.Events.{TellsFault};
 ghost use Rattle.f2_core.specs.Writes.{checkpoint_writes, making_writes as most_making};
 
-use crate::changes::{Changed, change_files};
+use crate::changes::{change_files, is_memory};
 use crate::checkpoints::find;
-use crate::entries::{add_checkpoint, add_fault, add_unfound};
+use crate::entries::{add_checkpoint, add_did, add_fault, add_unfound};
 use crate::volumes::Volume;
 use f2_disk::{Bench, Disk};
 use f2_layout::Geometry;
@@ -213,17 +213,18 @@ impl<D: Disk> Core<D> {
         let Ok(request) = BoxedRequest::new(self.alloc, request) else {
             return Reply::Memory;
         };
-        let Ok(changed) = change_files(&mut volume.files, &self.geometry, request.get()) else {
-            return Reply::Memory;
+        let choice = match change_files(&mut volume.files, &self.geometry, request.get()) {
+            Ok(choice) => choice,
+            Err(refusal) => {
+                if is_memory(&refusal) {
+                    return refusal;
+                }
+                add_did(&mut self.history, seat, request, &refusal, None);
+                return refusal;
+            }
         };
-        let Changed { reply, choice } = changed;
-        let entry = Entry::Did {
-            seat,
-            request,
-            outcome: reply.outcome(),
-        };
-        self.history.add(entry, choice);
-        reply
+        add_did(&mut self.history, seat, request, &Reply::Done, choice);
+        Reply::Done
     }
 
     /// A seat makes a checkpoint of the whole tree.
