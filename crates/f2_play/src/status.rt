@@ -1,0 +1,67 @@
+//! How a run ends.
+ghost use Rattle.std.specs.Prelude.{◌≡◌};
+ghost use Rattle.f2_play.specs.declared.status.Status.TheVariants.{Memory};
+ghost use Rattle.f2_play.specs.Endings.{number_of, limit_head as head_of_limit};
+
+use f2_layout::Limit;
+use std::alloc::AllocError;
+
+/// How a run ended.
+#[derive(Clone, Copy, Debug, PartialEq, Eq)]
+pub enum Status {
+    /// The script was read, and run to its end.
+    Done,
+    /// The words aren't a command.
+    Usage,
+    /// The script has more than 1,048,576 bytes or 65,536 lines.
+    TooLong,
+    /// This line, counted from 1, is the first that isn't in the grammar; nothing was run.
+    Script { line: u32 },
+    /// A read of the source failed.
+    SourceFault,
+    /// A write to the sink failed; what went out is the beginning of what was to be printed.
+    SinkFault,
+    /// The sizes of a `mkfs` line break this limit, by this number.
+    Geometry { limit: Limit, value: u32 },
+    /// Memory was refused; the line that it was refused to printed nothing.
+    Memory,
+}
+
+impl From<AllocError> for Status {
+    ghost from_gives = { λ _ status. status ≡ Memory };
+
+    fn from(_error: AllocError) -> Status {
+        Status::Memory
+    }
+}
+
+impl Status {
+    /// The exit status of the program, 0 to 9.
+    pub fn number(&self) -> u8
+        ensures { result ≡ number_of self.now }
+    {
+        match self {
+            Status::Done => 0,
+            Status::Usage => 1,
+            Status::TooLong => 2,
+            Status::Script { .. } => 3,
+            Status::SourceFault => 4,
+            Status::SinkFault => 5,
+            Status::Geometry { .. } => 8,
+            Status::Memory => 9,
+        }
+    }
+}
+
+/// What stands before the number in the line of a broken limit.
+pub fn limit_head(limit: Limit) -> &'static [u8]
+    ensures { result.now ≡ head_of_limit limit }
+{
+    match limit {
+        Limit::Blocks => b"f2n: geometry blocks ",
+        Limit::Nat => b"f2n: geometry nat ",
+        Limit::Zones => b"f2n: geometry zones ",
+        Limit::Nids => b"f2n: geometry nids ",
+        Limit::Device => b"f2n: geometry device ",
+    }
+}
