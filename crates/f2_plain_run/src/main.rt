@@ -6,9 +6,9 @@
 //! end, 1 for other words, 2 and 3 for a script that is too long or has a faulty line, 4 and 5 where standard input or
 //! output failed, 8 for sizes that no image has, 9 where memory was refused.
 //!
-//! `scripts::run_script` gives what the bytes of a script print, as `specs/Prints` has it by how the run ends; what
-//! each line prints, and which events of the machine it makes, stands in `specs/Plays`, and the last line in
-//! `specs/Endings`.
+//! `scripts::run_script` gives what the bytes of a script print, as `f2_play` has it by the status; of all that this allows
+//! it is one text, since what the plain machine chooses stands in `specs/Stages` and `specs/Chosen`: the least free number
+//! for a new row, what the next mount finds after a crash, and no blocks before the tail of a checkpoint.
 #![tactic(auto)]
 
 mod endings;
@@ -16,7 +16,8 @@ mod player;
 mod scripts;
 mod stops;
 
-use endings::Ending;
+use endings::push_last_line;
+use f2_play::Status;
 use scripts::run_script;
 use std::alloc::AllocError;
 use std::env;
@@ -36,9 +37,9 @@ fn is_replay<R: Env + AllocGlobal>(rt: &R) -> Result<bool, AllocError> {
     Ok(matches!(words.as_slice(), [word] if word.as_str() == "replay"))
 }
 
-/// Runs the script on standard input, and answers how that ended.
-fn replay<R: Env + AllocGlobal + Input + Print>(rt: &R) -> Result<Ending, AllocError> {
-    let (ending, mut text) = if is_replay(rt)? {
+/// Runs the script on standard input, and answers the status with which that ended.
+fn replay<R: Env + AllocGlobal + Input + Print>(rt: &R) -> Result<Status, AllocError> {
+    let (status, mut text) = if is_replay(rt)? {
         let mut script = Vec::new(rt.alloc());
         if rt
             .reader()
@@ -46,20 +47,20 @@ fn replay<R: Env + AllocGlobal + Input + Print>(rt: &R) -> Result<Ending, AllocE
             .read_to_end(&mut script)
             .is_err()
         {
-            return Ok(Ending::SourceFault);
+            return Ok(Status::SourceFault);
         }
         run_script(rt.alloc(), script.as_slice())
     } else {
-        (Ending::Usage, Vec::new(rt.alloc()))
+        (Status::Usage, Vec::new(rt.alloc()))
     };
-    ending.push_last_line(&mut text)?;
+    push_last_line(status, &mut text)?;
     if io::writer(rt).write_all(text.as_slice()).is_err() {
-        return Ok(Ending::SinkFault);
+        return Ok(Status::SinkFault);
     }
-    Ok(ending)
+    Ok(status)
 }
 
 fn main(rt: HostRuntime) -> ExitCode {
-    let ending = replay(&rt).unwrap_or(Ending::Memory);
-    ExitCode::from(ending.number())
+    let status = replay(&rt).unwrap_or(Status::Memory);
+    ExitCode::from(status.number())
 }

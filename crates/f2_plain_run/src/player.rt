@@ -1,16 +1,20 @@
 //! Playing the lines of a script.
-ghost use Rattle.std.specs.Prelude.{◌≡◌, ◌≤◌, if◌then◌else◌, false, IfOk, OnOk, MatchOption};
-ghost use Rattle.f2_model.specs.Step.{IsSeat};
+ghost use Rattle.std.specs.Prelude.{◌≡◌, ◌≤◌, if◌then◌else◌, true, false, IfOk, OnOk, MatchOption};
+ghost use Rattle.f2_model.specs.Step.{IsSeat, MOUNT_SEAT as mount_seat};
 ghost use Rattle.f2_model.specs.declared.events.Answer.TheVariants as answers;
 ghost use Rattle.f2_model.specs.declared.events.Event.TheVariants as events;
+ghost use Rattle.f2_model.specs.declared.replies.Reply.TheVariants as replies;
 ghost use Rattle.f2_model.specs.declared.replies.Step.TheVariants as steps;
 ghost use Rattle.f2_plain.specs.Events.{IsSeated};
 ghost use Rattle.f2_script.specs.declared.script.Line.TheVariants as verb;
-ghost use Rattle.f2_plain_run.specs.declared.stops.Stop.TheVariants as stop;
-ghost use Rattle.f2_plain_run.specs.Plays.{Counts, Draws, Finishes, Goes, Happens, IsCall, IsPlayed, IsSaying, Mounts, PlaysLine, Says, Unmounts, is_fine as is_fine_step, is_ok as is_ok_reply, least, picked, settled, tree_shown};
+ghost use Rattle.f2_play.specs.Calls.{Draws, Generates, Goes, IsCall, is_fine as is_fine_step, is_ok as is_ok_reply, is_over};
+ghost use Rattle.f2_play.specs.Lines.{live_where_up, tree_shown};
+ghost use Rattle.f2_plain_run.specs.Chosen.{PlaysOn};
+ghost use Rattle.f2_plain_run.specs.Runs.{IsPlayed, IsSaying, Leads, SaysOn, stops};
+ghost use Rattle.f2_plain_run.specs.Stages.{Comes, least, picked};
 
 use crate::stops::Stop;
-use f2_model::{Answer, Begun, Event, MOUNT_SEAT, Mode, Reply, Request, Step};
+use f2_model::{Answer, Begun, Event, MOUNT_SEAT, Mode, Reply, Request, Step, Tick};
 use f2_plain::{Choices, Machine, MarksKept};
 use f2_script::{
     Line, begun_text, counted_text, found_text, mounted_text, next_call, reply_text, step_text,
@@ -43,7 +47,7 @@ pub struct Player {
 impl Model for Player {
     ghost use Rattle.std.specs.Coded.{codes};
     ghost use Rattle.f2_plain.specs.contracts.machine.Machine as coded_machine;
-    ghost use Rattle.f2_plain_run.specs.Plays.{Stage};
+    ghost use Rattle.f2_plain_run.specs.Stages.{Stage};
 
     ghost Value = { Stage };
 
@@ -96,7 +100,7 @@ impl Player {
     /// Plays one line, and gives what it prints.
     pub fn play(&mut self, line: Line) -> Result<Vec<u8>, AllocError>
         requires { IsPlayed line }
-        ensures { IfOk result (λ printed. PlaysLine self.old line printed.items self.new) }
+        ensures { IfOk result (λ printed. PlaysOn self.old line printed.items self.new) }
     {
         match line {
             Line::Skipped => Ok(Vec::new(self.alloc)),
@@ -112,29 +116,14 @@ impl Player {
     /// Plays a line that makes events, and gives what it says, without the end of the line.
     fn say(&mut self, line: Line) -> Result<Vec<u8>, AllocError>
         requires { IsSaying line }
-        ensures { IfOk result (λ text. Says self.old line text.items self.new) }
+        ensures { IfOk result (λ text. SaysOn self.old line text.items self.new) }
     {
         match line {
-            Line::Call { seat, request } => {
-                let last = self.call(seat, request)?;
-                step_text(self.alloc, &last)
-            }
-            Line::Begin { seat, request } => {
-                let begun = self.begin(seat, request)?;
-                begun_text(self.alloc, &begun)
-            }
-            Line::Go { seat } => {
-                let step = self.go(seat, Stop::Told)?;
-                step_text(self.alloc, &step)
-            }
-            Line::Slot { seat } => {
-                let step = self.draw(seat)?;
-                step_text(self.alloc, &step)
-            }
-            Line::End { seat } => {
-                let last = self.go(seat, Stop::Over)?;
-                step_text(self.alloc, &last)
-            }
+            Line::Call { seat, request } => self.say_call(seat, request),
+            Line::Begin { seat, request } => self.say_begin(seat, request),
+            Line::Go { seat } => self.say_go(seat),
+            Line::Slot { seat } => self.say_slot(seat),
+            Line::End { seat } => self.say_end(seat),
             Line::Tick => self.tick(),
             Line::Crash { pick } => self.crash(pick),
             Line::Mount => self.mount(),
@@ -148,10 +137,52 @@ impl Player {
         }
     }
 
+    /// A call, run to its reply or to where it has to wait.
+    fn say_call(&mut self, seat: u8, request: Request) -> Result<Vec<u8>, AllocError>
+        requires { IsSeat seat }
+        ensures { IfOk result (λ text. SaysOn self.old (verb.Call seat request) text.items self.new) }
+    {
+        let last = self.call(seat, request)?;
+        step_text(self.alloc, &last)
+    }
+
+    /// The beginning of a call.
+    fn say_begin(&mut self, seat: u8, request: Request) -> Result<Vec<u8>, AllocError>
+        requires { IsSeat seat }
+        ensures { IfOk result (λ text. SaysOn self.old (verb.Begin seat request) text.items self.new) }
+    {
+        let begun = self.begin(seat, request)?;
+        begun_text(self.alloc, &begun)
+    }
+
+    /// The next events of a seat's call, up to one that tells more than a position.
+    fn say_go(&mut self, seat: u8) -> Result<Vec<u8>, AllocError>
+        ensures { IfOk result (λ text. SaysOn self.old (verb.Go seat) text.items self.new) }
+    {
+        let last = self.go(seat, Stop::Told)?;
+        step_text(self.alloc, &last)
+    }
+
+    /// The next event of a seat's call, where that draws a position.
+    fn say_slot(&mut self, seat: u8) -> Result<Vec<u8>, AllocError>
+        ensures { IfOk result (λ text. SaysOn self.old (verb.Slot seat) text.items self.new) }
+    {
+        let step = self.draw(seat)?;
+        step_text(self.alloc, &step)
+    }
+
+    /// The rest of a seat's call.
+    fn say_end(&mut self, seat: u8) -> Result<Vec<u8>, AllocError>
+        ensures { IfOk result (λ text. SaysOn self.old (verb.End seat) text.items self.new) }
+    {
+        let last = self.go(seat, Stop::Over)?;
+        step_text(self.alloc, &last)
+    }
+
     /// One event.
     fn step(&mut self, event: Event) -> Result<Answer, AllocError>
         requires { IsSeated event }
-        ensures { IfOk result (λ answer. Happens event answer self.old self.new) }
+        ensures { IfOk result (λ answer. Comes event answer self.old self.new) }
     {
         self.machine.step(event, self.choices)
     }
@@ -159,7 +190,7 @@ impl Player {
     /// Begins a call.
     fn begin(&mut self, seat: u8, request: Request) -> Result<Begun, AllocError>
         requires { IsSeat seat }
-        ensures { IfOk result (λ begun. Happens (events.Begin seat request) (answers.Began begun) self.old self.new) }
+        ensures { IfOk result (λ begun. Comes (events.Begin seat request) (answers.Began begun) self.old self.new) }
     {
         match self.step(Event::Begin { seat, request })? {
             Answer::Began(begun) => Ok(begun),
@@ -169,7 +200,7 @@ impl Player {
 
     /// The next event of a seat's call.
     fn go_once(&mut self, seat: u8) -> Result<Step, AllocError>
-        ensures { IfOk result (λ step. Happens (events.Go seat) (answers.Stepped step) self.old self.new) }
+        ensures { IfOk result (λ step. Comes (events.Go seat) (answers.Stepped step) self.old self.new) }
     {
         match self.step(Event::Go { seat })? {
             Answer::Stepped(step) => Ok(step),
@@ -179,7 +210,7 @@ impl Player {
 
     /// Carries a seat's call on to where a line stops.
     fn go(&mut self, seat: u8, stop: Stop) -> Result<Step, AllocError>
-        ensures { IfOk result (λ last. Goes stop seat last self.old self.new) }
+        ensures { IfOk result (λ last. Leads (Goes (stops stop) seat last) self.old self.new) }
     {
         for _ in 0..MOST_EVENTS {
             let step = self.go_once(seat)?;
@@ -192,7 +223,7 @@ impl Player {
 
     /// The next event of a seat's call, which draws a position of the node log.
     fn draw_next(&mut self, seat: u8) -> Result<u32, AllocError>
-        ensures { IfOk result (λ position. Happens (events.Go seat) (answers.Stepped (steps.Slot position)) self.old self.new) }
+        ensures { IfOk result (λ position. Comes (events.Go seat) (answers.Stepped (steps.Slot position)) self.old self.new) }
     {
         match self.go_once(seat)? {
             Step::Slot(position) => Ok(position),
@@ -202,7 +233,7 @@ impl Player {
 
     /// The next event of a seat's call, where that draws a position of the node log.
     fn draw(&mut self, seat: u8) -> Result<Step, AllocError>
-        ensures { IfOk result (λ step. Draws seat step self.old self.new) }
+        ensures { IfOk result (λ step. Leads (Draws self.old.seen.state seat step) self.old self.new) }
     {
         if self.machine.draws_next(seat) {
             let position = self.draw_next(seat)?;
@@ -215,7 +246,7 @@ impl Player {
     /// Begins a call and carries it on to its reply, or to where it has to wait.
     fn call(&mut self, seat: u8, request: Request) -> Result<Step, AllocError>
         requires { IsSeat seat }
-        ensures { IfOk result (λ last. IsCall seat request last self.old self.new) }
+        ensures { IfOk result (λ last. Leads (IsCall seat request last) self.old self.new) }
     {
         match self.begin(seat, request)? {
             Begun::Replied(reply) => Ok(Step::Replied(reply)),
@@ -229,7 +260,7 @@ impl Player {
 
     /// Carries the checkpoint of a mount or an unmount on to its end.
     fn finish(&mut self) -> Result<(), AllocError>
-        ensures { OnOk result (Finishes self.old self.new) }
+        ensures { OnOk result (Leads (Goes is_over mount_seat (steps.Replied replies.Synced)) self.old self.new) }
     {
         match self.go(MOUNT_SEAT, Stop::Over)? {
             Step::Replied(Reply::Synced) => Ok(()),
@@ -238,13 +269,21 @@ impl Player {
     }
 
     /// One event of the flusher.
-    fn tick(&mut self) -> Result<Vec<u8>, AllocError>
-        ensures { IfOk result (λ text. Says self.old verb.Tick text.items self.new) }
+    fn tick_once(&mut self) -> Result<Tick, AllocError>
+        ensures { IfOk result (λ tick. Comes events.Tick (answers.Ticked tick) self.old self.new) }
     {
         match self.step(Event::Tick)? {
-            Answer::Ticked(tick) => Vec::from_slice(self.alloc, tick_text(tick)),
+            Answer::Ticked(tick) => Ok(tick),
             _ => Err(AllocError),
         }
+    }
+
+    /// The same, and what it says.
+    fn tick(&mut self) -> Result<Vec<u8>, AllocError>
+        ensures { IfOk result (λ text. SaysOn self.old verb.Tick text.items self.new) }
+    {
+        let tick = self.tick_once()?;
+        Vec::from_slice(self.alloc, tick_text(tick))
     }
 
     /// What the next mount finds after a crash with this pick.
@@ -267,7 +306,7 @@ impl Player {
 
     /// A crash settles what the next mount finds.
     fn settle(&mut self, choices: Choices)
-        ensures { self.new ≡ settled choices self.old }
+        ensures { self.new ≡ record self.old { choices = choices; is_settled = true } }
     {
         self.choices = choices;
         self.is_settled = true;
@@ -282,7 +321,7 @@ impl Player {
 
     /// Power is lost.
     fn lose_power(&mut self) -> Result<(), AllocError>
-        ensures { OnOk result (Happens events.Crash answers.Crashed self.old self.new) }
+        ensures { OnOk result (Comes events.Crash answers.Crashed self.old self.new) }
     {
         match self.step(Event::Crash)? {
             Answer::Crashed => Ok(()),
@@ -292,7 +331,7 @@ impl Player {
 
     /// Loses power. A crash before this one, without a mount between, settled what remains.
     fn crash(&mut self, pick: u64) -> Result<Vec<u8>, AllocError>
-        ensures { IfOk result (λ text. Says self.old (verb.Crash pick) text.items self.new) }
+        ensures { IfOk result (λ text. SaysOn self.old (verb.Crash pick) text.items self.new) }
     {
         let choices = self.choices_after(pick)?;
         self.lose_power()?;
@@ -302,7 +341,7 @@ impl Player {
 
     /// Begins a mount, and gives how many rows it found, unless the volume is open.
     fn begin_mount(&mut self) -> Result<Option<u32>, AllocError>
-        ensures { IfOk result (λ rows. MatchOption rows (Happens events.Mount answers.AlreadyMounted self.old self.new) (λ rows. Happens events.Mount (answers.Found rows) self.old self.new)) }
+        ensures { IfOk result (λ rows. MatchOption rows (Comes events.Mount answers.AlreadyMounted self.old self.new) (λ rows. Comes events.Mount (answers.Found rows) self.old self.new)) }
     {
         match self.step(Event::Mount)? {
             Answer::Found(rows) => Ok(Some(rows)),
@@ -313,7 +352,7 @@ impl Player {
 
     /// Opens the volume, with its checkpoint.
     fn mount(&mut self) -> Result<Vec<u8>, AllocError>
-        ensures { IfOk result (λ text. Mounts text.items self.old self.new) }
+        ensures { IfOk result (λ text. SaysOn self.old verb.Mount text.items self.new) }
     {
         match self.begin_mount()? {
             Some(rows) => {
@@ -327,7 +366,7 @@ impl Player {
 
     /// Closes the volume, by a checkpoint.
     fn unmount(&mut self) -> Result<Vec<u8>, AllocError>
-        ensures { IfOk result (λ text. Unmounts text.items self.old self.new) }
+        ensures { IfOk result (λ text. SaysOn self.old verb.Unmount text.items self.new) }
     {
         match self.step(Event::Unmount)? {
             Answer::Began(Begun::Replied(refusal)) => reply_text(self.alloc, &refusal),
@@ -341,7 +380,7 @@ impl Player {
 
     /// What is printed of the tree.
     fn tree(&self) -> Result<Vec<u8>, AllocError>
-        ensures { IfOk result (λ printed. printed.items ≡ tree_shown self.now.seen.state) }
+        ensures { IfOk result (λ printed. printed.items ≡ tree_shown (live_where_up self.now.seen.state)) }
     {
         let plain = self.machine.plain();
         match plain.mode() {
@@ -352,7 +391,7 @@ impl Player {
 
     /// Makes the calls of a generator, and counts what they came to.
     fn generate(&mut self, start: u64, count: u32) -> Result<Vec<u8>, AllocError>
-        ensures { IfOk result (λ text. Counts start count text.items self.old self.new) }
+        ensures { IfOk result (λ text. SaysOn self.old (verb.Gen start count) text.items self.new) }
     {
         let mut x = start;
         let mut fine = 0;

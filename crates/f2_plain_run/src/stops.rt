@@ -1,6 +1,7 @@
 //! Where a line stops that goes on with a call.
 ghost use Rattle.std.specs.Prelude.{◌≡◌};
-ghost use Rattle.f2_plain_run.specs.Plays.{is_over as is_over_step, is_slot as is_slot_step, stops};
+ghost use Rattle.f2_play.specs.Calls.{is_over as is_over_step, is_slot as is_slot_step};
+ghost use Rattle.f2_plain_run.specs.Runs.{stops};
 
 use f2_model::Step;
 

@@ -1,6 +1,6 @@
 use Rattle.std.proofs.Common.{refl, sym, subst}
 use Rattle.std.specs.Prelude.{Some}
-use Rattle.f2_plain_run.specs.Prints.{PlaysNext}
+use Rattle.f2_plain_run.specs.Runs.{PlaysNext}
 use Rattle.f2_plain_run.proofs.scripts.play_next.Goals as goal
 
 pub returns-in_ok-printed-in-Some-default : goal.returns-in_ok-printed-in-Some-default

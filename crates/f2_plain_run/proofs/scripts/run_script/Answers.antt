@@ -1,5 +1,5 @@
 use Rattle.std.proofs.Common.{sym, subst, false}
-use Rattle.f2_plain_run.specs.Prints.{AreStanding}
+use Rattle.f2_plain_run.specs.Runs.{AreStanding}
 use Rattle.f2_plain_run.proofs.Running.{lines_stand}
 use Rattle.f2_plain_run.proofs.scripts.run_script.Goals as goal
 
