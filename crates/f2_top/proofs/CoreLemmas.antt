@@ -1,5 +1,5 @@
 -- What a core on a calm bench does, as what a line of a script came to.
-use Rattle.std.proofs.Common.{◌≡◌, ℕ, ◌+◌, ◌≤◌, List, [], ◌∷◌, ◌++◌, refl, sym, ap, ◌∙◌, subst, arith}
+use Rattle.std.proofs.Common.{◌≡◌, ℕ, ◌+◌, ◌≤◌, List, [], ◌∷◌, refl, sym, ap, ◌∙◌, subst, arith}
 use Rattle.std.specs.Prelude.{◌≢◌, if◌then◌else◌, Option, Some, None, IfSome, IsSome}
 use Rattle.f2_disk.specs.Contents.{Contents}
 use Rattle.f2_disk.specs.Meter.{Meter, HasFailed, HasMoreRoom, IsCalm, IsWithin}
@@ -18,14 +18,16 @@ use Rattle.f2_model.specs.Step.{Faults, Turn, Step, replied, is_up}
 use Rattle.f2_model.specs.declared.events.Answer.TheVariants.{Crashed}
 use Rattle.f2_laid.specs.declared.stored.Stored.{Stored}
 use Rattle.f2_core.specs.declared.volumes.Volume.{Volume}
-use Rattle.f2_core.specs.Seen.{Seen, IsIn, Knows, live_where_up, mode_of, tree_of}
-use Rattle.f2_core.specs.Events.{ComesTo, HasCrashed}
+use Rattle.f2_core.specs.Seen.{Seen, IsIn, Knows, mode_of, tree_of}
+use Rattle.f2_core.specs.Events.{ComesTo, HasCrashed, IsServed}
 use Rattle.f2_core.specs.Writes.{checkpoint_writes}
 use Rattle.f2_script.specs.declared.script.Line.TheVariants.{Call, Crash, Tree}
 use Rattle.f2_script.specs.declared.script.Line.TheVariants as kind
 use Rattle.f2_script.specs.Replies.{reply_spelling}
 use Rattle.f2_script.specs.Steps.{found_spelling, mounted_spelling}
-use Rattle.f2_top.specs.Plays.{tree_shown, found, already}
+use Rattle.f2_model.specs.declared.replies.Step.TheVariants as step
+use Rattle.f2_play.specs.Lines.{ended, live_where_up, tree_shown, found, already, shown}
+use Rattle.f2_top.proofs.EventLemmas.{call_of, mount_of, one_of}
 use Rattle.f2_top.specs.Replay.{CountsFaults}
 use Rattle.f2_top.specs.Runs.{IsCalmMeter, StaysCalm, Comes, PlaysOn}
 
@@ -105,14 +107,18 @@ StaysCalm-anew blocks bench started ready made room making calm more has is with
 
 -- a call that was replied to, and the line that was printed for it
 pub PlaysOn-call : {D : Type 0} (before now : Option Contents) (old new : Seen D) (seat : ℕ) (request : Request) (told : Reply) (text : List ℕ)
-    → Comes before now old new (events.Begin seat request) (replied told) → told ≢ reply.Memory → text ≡ reply_spelling told ++ 10 ∷ []
+    → IsServed (events.Begin seat request) → Comes before now old new (events.Begin seat request) (replied told) → told ≢ reply.Memory → text ≡ ended (reply_spelling told)
     → PlaysOn before now old new (Call seat request) text
-PlaysOn-call before now old new seat request told text comes some printed from at =
+PlaysOn-call before now old new seat request told text served comes some printed from at =
     let come = comes.from_each from at.tells at.in_state in (
       come.to,
       record {
-        part = record { text = text; events = come.events; after = come.to };
-        line_played = record { told = told; not_memory = some; happened = come.leads.happened; call = come.leads.stands; text = printed };
+        part = record { text = text; events = come.events; faults = machine.calm; after = come.to };
+        no_fault = refl;
+        line_played = record {
+          happened = come.leads.happened;
+          said = (step.Replied told, call_of _ _ seat request told come.events from come.to served some come.leads.happened come.leads.stands, printed);
+        };
         printed = refl;
         after = refl;
       },
@@ -121,13 +127,17 @@ PlaysOn-call before now old new seat request told text comes some printed from a
 
 -- a mount that found a tree, and one of an open volume
 pub PlaysOn-found : {D : Type 0} (before now : Option Contents) (old new : Seen D) (rows : ℕ) (text : List ℕ)
-    → Comes before now old new events.Mount (answers.Found rows) → text ≡ found_spelling rows ++ 10 ∷ [] → PlaysOn before now old new kind.Mount text
+    → Comes before now old new events.Mount (answers.Found rows) → text ≡ ended (found_spelling rows) → PlaysOn before now old new kind.Mount text
 PlaysOn-found before now old new rows text comes printed from at =
     let come = comes.from_each from at.tells at.in_state in (
       come.to,
       record {
-        part = record { text = text; events = come.events; after = come.to };
-        line_played = found rows come.leads.happened come.leads.stands printed;
+        part = record { text = text; events = come.events; faults = machine.calm; after = come.to };
+        no_fault = refl;
+        line_played = record {
+          happened = come.leads.happened;
+          said = found rows (mount_of _ _ rows come.events from come.to come.leads.happened come.leads.stands) printed;
+        };
         printed = refl;
         after = refl;
       },
@@ -135,13 +145,14 @@ PlaysOn-found before now old new rows text comes printed from at =
     )
 
 pub PlaysOn-already : {D : Type 0} (before now : Option Contents) (old new : Seen D) (text : List ℕ)
-    → Comes before now old new events.Mount answers.AlreadyMounted → text ≡ mounted_spelling ++ 10 ∷ [] → PlaysOn before now old new kind.Mount text
+    → Comes before now old new events.Mount answers.AlreadyMounted → text ≡ ended mounted_spelling → PlaysOn before now old new kind.Mount text
 PlaysOn-already before now old new text comes printed from at =
     let come = comes.from_each from at.tells at.in_state in (
       come.to,
       record {
-        part = record { text = text; events = come.events; after = come.to };
-        line_played = already come.leads.happened come.leads.stands printed;
+        part = record { text = text; events = come.events; faults = machine.calm; after = come.to };
+        no_fault = refl;
+        line_played = record { happened = come.leads.happened; said = already (one_of events.Mount answers.AlreadyMounted come.events come.leads.stands) printed };
         printed = refl;
         after = refl;
       },
@@ -157,16 +168,23 @@ crash-answers limits faults from event turn is step =
 -- a crash
 pub PlaysOn-crash : {D : Type 0} (before now : Option Contents) (old new : Seen D) (pick : ℕ) (text : List ℕ)
     → ((from : State) → IsIn old.geometry before old.volume old.history from → HasCrashed old new now from) → (IsSome before → IsSome now)
-    → text ≡ reply_spelling reply.Done ++ 10 ∷ [] → PlaysOn before now old new (Crash pick) text
+    → text ≡ ended (reply_spelling reply.Done) → PlaysOn before now old new (Crash pick) text
 PlaysOn-crash before now old new pick text crashes told printed from at =
     let crash = crashes from at.in_state in (
       crash.one.turn.after,
       record {
-        part = record { text = text; events = crash.one ∷ []; after = crash.one.turn.after };
+        part = record { text = text; events = crash.one ∷ []; faults = machine.calm; after = crash.one.turn.after };
+        no_fault = refl;
         line_played = record {
           happened = crash.happened;
-          once = record { one = crash.one; whole = refl; begun = crash.event; answered = crash-answers _ _ from crash.one.event crash.one.turn crash.event crash.happened.2; quiet = crash.quiet };
-          text = printed;
+          said = (
+            record {
+              one = crash.one;
+              whole = refl;
+              happens = record { event_is = crash.event; answered = crash-answers _ _ from crash.one.event crash.one.turn crash.event crash.happened.2 };
+            },
+            printed,
+          );
         };
         printed = refl;
         after = refl;
@@ -185,8 +203,12 @@ PlaysOn-tree told core text printed from at =
     let is = at.in_state in (
       from,
       record {
-        part = record { text = text; events = []; after = from };
-        line_played = record { still = refl; same = refl; text = printed ∙ ap tree_shown (sym (tree-seen from is.stored core.volume is.mode is.known)) };
+        part = record { text = text; events = []; faults = machine.calm; after = from };
+        no_fault = refl;
+        line_played = record {
+          happened = (omega arith, refl);
+          said = (refl, shown (printed ∙ ap tree_shown (sym (tree-seen from is.stored core.volume is.mode is.known))));
+        };
         printed = refl;
         after = refl;
       },

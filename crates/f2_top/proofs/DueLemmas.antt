@@ -7,15 +7,18 @@ use Rattle.f2_layout.specs.Refusal.{geometry_of}
 use Rattle.f2_layout.specs.declared.geometry.Limit.{Limit}
 use Rattle.f2_layout.specs.declared.geometry.BadGeometry.{BadGeometry}
 use Rattle.f2_script.specs.declared.script.Line.{Line}
+use Rattle.f2_script.specs.declared.script.Line.TheVariants as verb
 use Rattle.f2_script.specs.declared.script.Line.TheVariants.{Mkfs}
 use Rattle.f2_script.specs.declared.script.Grammar.TheVariants as grammar
 use Rattle.f2_script.specs.Grammar.{IsTooLong, Spells, IsFirstFault, lines_of}
 use Rattle.f2_script.proofs.ScriptLaws.{one_reading, no_fault, one_fault}
-use Rattle.f2_top.specs.declared.status.Status.{Status}
-use Rattle.f2_top.specs.declared.status.Status.TheVariants as status
-use Rattle.f2_top.specs.Reads.{TakesScript}
-use Rattle.f2_top.specs.Replay.{BreaksLimit, Finishes, said_whole, broken_off}
-use Rattle.f2_top.specs.Due.{IsTaken, IsFree, IsDue}
+use Rattle.f2_play.specs.declared.status.Status.{Status}
+use Rattle.f2_play.specs.declared.status.Status.TheVariants as status
+use Rattle.f2_play.specs.Scripts.{BreaksLimit}
+use Rattle.f2_play.specs.Due as due_of
+use Rattle.f2_play.specs.Due.{IsFree}
+use Rattle.f2_top.specs.Reads.{TakesScript, IsTaken}
+use Rattle.f2_top.specs.Replay.{Finishes, said_whole, broken_off}
 use Rattle.f2_top.specs.Runs.{IsPlayed, IsDueLines}
 
 -- two readings of the same bytes, a reading and a fault, and two faults
@@ -28,28 +31,38 @@ not_both bytes lines n spelled first = no_fault grammar.Replay _ (lines_of bytes
 same_fault : (bytes : List ℕ) (m n : ℕ) → IsFirstFault grammar.Replay bytes m → IsFirstFault grammar.Replay bytes n → m ≡ n
 same_fault bytes m n a b = a.1 ∙ ap (λ k. k + 1) (one_fault grammar.Replay _ (lines_of bytes) a.0 b.0 a.2 b.2) ∙ sym b.1
 
--- the sizes that a first line asks for, and the status of what is said of them
-abbrev blocks_asked : List Line → ℕ
-blocks_asked (Mkfs blocks nat ∷ lines) = blocks
-blocks_asked _ = 0
-
-abbrev nat_asked : List Line → ℕ
-nat_asked (Mkfs blocks nat ∷ lines) = nat
-nat_asked _ = 0
-
+-- the status of what is said of sizes
 abbrev status_of : Result Extent BadGeometry → Status
 status_of (Ok extent) = status.Done
 status_of (Err bad) = status.Geometry bad.limit bad.value
 
 -- lines break one limit first
+one_break : (lines : List Line) (l k : Limit) (v w : ℕ) → BreaksLimit lines l v → BreaksLimit lines k w → status.Geometry l v ≡ status.Geometry k w
+one_break [] l k v w one other = absurd one
+one_break (verb.Skipped ∷ lines) l k v w one other = one_break lines l k v w one other
+one_break (verb.Mkfs blocks nat ∷ lines) l k v w one other = ap status_of (sym one ∙ other)
+one_break (verb.Tree ∷ lines) l k v w one other = absurd one
+one_break (verb.Call seat request ∷ lines) l k v w one other = absurd one
+one_break (verb.Begin seat request ∷ lines) l k v w one other = absurd one
+one_break (verb.Go seat ∷ lines) l k v w one other = absurd one
+one_break (verb.Slot seat ∷ lines) l k v w one other = absurd one
+one_break (verb.End seat ∷ lines) l k v w one other = absurd one
+one_break (verb.Tick ∷ lines) l k v w one other = absurd one
+one_break (verb.Crash pick ∷ lines) l k v w one other = absurd one
+one_break (verb.Fail kind n ∷ lines) l k v w one other = absurd one
+one_break (verb.Stop n ∷ lines) l k v w one other = absurd one
+one_break (verb.Mount ∷ lines) l k v w one other = absurd one
+one_break (verb.Unmount ∷ lines) l k v w one other = absurd one
+one_break (verb.Gen start count ∷ lines) l k v w one other = absurd one
+
 same_break : (bytes : List ℕ) (a b : List Line) (l k : Limit) (v w : ℕ) → Spells grammar.Replay bytes a → Spells grammar.Replay bytes b
     → BreaksLimit a l v → BreaksLimit b k w → status.Geometry l v ≡ status.Geometry k w
 same_break bytes a b l k v w spelled again one other =
-    let same = sym one.first ∙ same_lines bytes a b spelled again ∙ other.first in
-    let blocks : one.extent.blocks ≡ other.extent.blocks = ap blocks_asked same in
-    let nat : one.extent.nat ≡ other.extent.nat = ap nat_asked same in
-    let extent : one.extent ≡ other.extent = λ i. record { blocks = blocks i; nat = nat i } in
-    ap status_of (sym one.broken ∙ ap geometry_of extent ∙ other.broken)
+    one_break b l k v w (subst (λ ls. BreaksLimit ls l v) (same_lines bytes a b spelled again) one) other
+
+-- each status comes where the bytes of a `replay` script are due it
+abbrev pub IsDue : List ℕ → Status → Type 0
+IsDue bytes s = due_of.IsDue grammar.Replay bytes s
 
 -- a free status is due to nothing
 due-free : (bytes : List ℕ) (s : Status) → IsFree s → IsDue bytes s
@@ -183,11 +196,8 @@ DueTaken-finished old new then now s ending due (broken_off failed loud some) by
 -- lines whose sizes break no limit
 unbroken : (lines rest : List Line) (asked got : Extent) → lines ≡ Mkfs asked.blocks asked.nat ∷ rest → Ok got ≡ geometry_of asked → (limit : Limit) (value : ℕ) → ¬ (BreaksLimit lines limit value)
 unbroken lines rest asked got is sizes limit value breaks =
-    let same = sym is ∙ breaks.first in
-    let blocks : asked.blocks ≡ breaks.extent.blocks = ap blocks_asked same in
-    let nat : asked.nat ≡ breaks.extent.nat = ap nat_asked same in
-    let extent : asked ≡ breaks.extent = λ i. record { blocks = blocks i; nat = nat i } in
-    let both = sizes ∙ ap geometry_of extent ∙ breaks.broken in
+    let broken : geometry_of asked ≡ Err record { limit = limit; value = value } = subst (λ ls. BreaksLimit ls limit value) is breaks in
+    let both : ◌≡◌ {A = Result Extent BadGeometry} (Ok got) (Err record { limit = limit; value = value }) = sizes ∙ broken in
     absurd (cc)
 
 -- the status of lines whose sizes break no limit, and of lines without any
@@ -205,4 +215,4 @@ pub IsDueLines-played : (lines rest : List Line) (asked got : Extent) (s : Statu
 IsDueLines-played lines rest asked got s is sizes played = played-due lines s (unbroken lines rest asked got is sizes) played
 
 pub IsDueLines-none : (lines : List Line) → lines ≡ [] → IsDueLines lines status.Done
-IsDueLines-none lines none limit value breaks = let both = sym none ∙ breaks.first in absurd (cc)
+IsDueLines-none lines none limit value breaks = let no : BreaksLimit [] limit value = subst (λ ls. BreaksLimit ls limit value) none breaks in absurd no

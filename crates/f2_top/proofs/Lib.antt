@@ -1,4 +1,5 @@
 pub mod PutLemmas
+pub mod EventLemmas
 pub mod CoreLemmas
 pub mod PlayLemmas
 pub mod MountLemmas

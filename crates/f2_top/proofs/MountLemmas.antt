@@ -1,32 +1,37 @@
 -- What a mount of a fresh image comes to, and scripts that begin with `mkfs`.
-use Rattle.std.proofs.Common.{◌≡◌, ℕ, zero, suc, Bool, true, false, List, [], ◌∷◌, ◌++◌, refl, sym, ap, ◌∙◌, subst, append_assoc, append-nil, length, take, Result, Ok, Err, inl, inr, arith}
-use Rattle.std.specs.Prelude.{if◌then◌else◌, Option, None, IsSome}
+use Rattle.std.proofs.Common.{◌≡◌, ℕ, zero, suc, List, [], ◌∷◌, ◌++◌, refl, sym, ap, ◌∙◌, subst, append_assoc, append-nil, length, take, Ok, Err, inl, inr, arith}
+use Rattle.std.specs.Prelude.{Option, None, IsSome}
 use Rattle.std.specs.Io.KnownBytes.{Appends}
 use Rattle.std.proofs.KnownBytes.{Appends-nil, Appends-trans}
 use Rattle.std.proofs.lemmas.List.{length-take}
-use Rattle.f2_format.specs.Geometry.{Extent, breaks_blocks, breaks_nat, breaks_zones, breaks_nids}
+use Rattle.f2_format.specs.Geometry.{Extent, node_third, data_third}
 use Rattle.f2_disk.specs.Contents.{Contents}
 use Rattle.f2_layout.specs.Refusal.{geometry_of}
 use Rattle.f2_layout.specs.declared.geometry.BadGeometry.{BadGeometry}
 use Rattle.f2_model.specs.declared.bounds.Limits.{Limits}
 use Rattle.f2_model.specs.Run.{Happening, Happened}
 use Rattle.f2_model.specs.State.{State, Mark, initial}
-use Rattle.f2_model.specs.Step as machine
 use Rattle.f2_model.specs.declared.events.Event.{Event}
 use Rattle.f2_model.specs.declared.events.Event.TheVariants as events
 use Rattle.f2_model.specs.Step.{Faults, calm, Turn, Step, StepMount}
 use Rattle.f2_model.specs.declared.events.Answer.TheVariants.{Found, NotMounted}
 use Rattle.f2_model.specs.declared.events.MountRefusal.TheVariants.{ReadFailed, WriteFailed, BadImage, NoMemory}
 use Rattle.f2_flat.specs.Flat.{limits_of}
-use Rattle.f2_core.specs.Seen.{Seen, IsIn, new_image}
+use Rattle.f2_core.specs.Seen.{Seen, IsIn}
 use Rattle.f2_core.specs.Events.{IsMade, IsMount}
 use Rattle.f2_script.specs.declared.script.Line.{Line}
 use Rattle.f2_script.specs.declared.script.Line.TheVariants.{Mkfs}
-use Rattle.f2_top.specs.declared.status.Status.{Status}
-use Rattle.f2_top.specs.declared.status.Status.TheVariants as status
-use Rattle.f2_top.specs.Plays.{PlaysScript, mkfs_text}
-use Rattle.f2_top.specs.Replay.{BreaksLimit}
-use Rattle.f2_top.specs.Runs.{Comes, IsAt, PlaysFrom, IsMounted, SomeCut, Ends, EndsScript}
+use Rattle.f2_script.specs.Steps.{made_spelling}
+use Rattle.f2_play.specs.declared.status.Status.{Status}
+use Rattle.f2_play.specs.declared.status.Status.TheVariants as status
+use Rattle.f2_play.specs.Parts.{Part, state_after}
+use Rattle.f2_play.specs.Lines.{PlaysLines, ended, new_image}
+use Rattle.f2_play.specs.Faults.{nothing_planned}
+use Rattle.f2_play.specs.Scripts.{BreaksLimit}
+use Rattle.f2_play.proofs.Playing.{geometry_of-ok, image-counted}
+use Rattle.f2_top.specs.Left.{IsSafeWhereTold}
+use Rattle.f2_top.specs.Runs.{Comes, IsAt, PlaysFrom, PlaysFlat, IsMounted, SomeCut, Ends, EndsScript}
+use Rattle.f2_top.proofs.EventLemmas.{mount_of}
 use Rattle.f2_top.specs.Streams.{PutsSome}
 use Rattle.f2_top.proofs.PlayLemmas.{PlaysTo-none}
 
@@ -35,17 +40,6 @@ no_marks = []
 
 length-take-none : (k : ℕ) → length (take k no_marks) ≡ 0
 length-take-none k = omega (arith, length-take k no_marks)
-
--- sizes that pass one test
-if-ok : (b : Bool) (bad : BadGeometry) (rest : Result Extent BadGeometry) (g : Extent) → (if b then Err bad else rest) ≡ Ok g → rest ≡ Ok g
-if-ok true bad rest g h = cc
-if-ok false bad rest g h = h
-
--- sizes that break no limit are the sizes that were asked for
-pub geometry_of-ok : (e g : Extent) → geometry_of e ≡ Ok g → g ≡ e
-geometry_of-ok e g h =
-    let last : Ok e ≡ Ok g = if-ok (breaks_nids e) _ _ g (if-ok (breaks_zones e) _ _ g (if-ok (breaks_nat e) _ _ g (if-ok (breaks_blocks e) _ _ g h))) in
-    cc
 
 -- a mount of a fresh image finds no marked row
 pub mount-finds-none : (faults : Faults) (turn : Turn) (rows : ℕ) → StepMount faults (initial new_image) turn → turn.answer ≡ Found rows → rows ≡ 0
@@ -90,43 +84,57 @@ IsMounted-of extent made now core new rows tells is comes sized =
     record {
       mounted = come.events;
       start = come.to;
-      found = found-none (limits_of extent) rows come.events come.to happened come.leads.stands;
+      found = mount_of (limits_of extent) calm 0 come.events (initial new_image) come.to happened (found-none (limits_of extent) rows come.events come.to happened come.leads.stands);
       happened = happened;
       sizes = sized ∙ is.sizes;
       at = record { tells = comes.tells tells; in_state = come.goes.state; safe = come.goes.safe };
     }
 
+-- what a `mkfs` line prints
+abbrev pub mkfs_text : Extent → List ℕ
+mkfs_text extent = ended (made_spelling (node_third extent) (data_third extent))
+
+-- the last of some parts
+parts-end : (limits : Limits) (from to : State) (lines : List Line) (parts : List Part) → PlaysLines limits from lines parts to → to ≡ state_after from parts
+parts-end limits from to [] [] played = sym played
+parts-end limits from to [] (part ∷ parts) played = absurd played
+parts-end limits from to (line ∷ lines) [] played = absurd played
+parts-end limits from to (line ∷ lines) (part ∷ parts) played = parts-end limits part.after to lines parts played.1
+
 -- lines that are played on an image
-pub PlaysScript-mkfs : {D : Type 0} (extent : Extent) (first told : Option Contents) (core : Seen D) (lines : List Line) (text : List ℕ)
+pub PlaysFlat-mkfs : {D : Type 0} (extent : Extent) (first told : Option Contents) (core : Seen D) (lines : List Line) (text : List ℕ)
     → geometry_of extent ≡ Ok extent → (mounted : IsMounted extent first core) → PlaysFrom told (limits_of extent) mounted.start lines text
-    → PlaysScript told (Mkfs extent.blocks extent.nat ∷ lines) (mkfs_text extent ++ text)
-PlaysScript-mkfs extent first told core lines text sizes mounted plays = (
-  sizes,
-  (
-    plays.to,
+    → PlaysFlat told (Mkfs extent.blocks extent.nat ∷ lines) (mkfs_text extent ++ text)
+PlaysFlat-mkfs extent first told core lines text sizes mounted plays =
+    let part : Part = record { text = mkfs_text extent; events = mounted.mounted; faults = calm; after = mounted.start } in
+    let mkfs : Line = Mkfs extent.blocks extent.nat in
     record {
-      mounted = mounted.mounted;
-      start = mounted.start;
-      parts = plays.played.parts;
-      found = mounted.found;
-      happened = mounted.happened;
-      played = plays.played.played;
+      parts = part ∷ plays.played.parts;
+      played = record {
+        sizes = sizes;
+        first = part;
+        rest = plays.played.parts;
+        whole = refl;
+        after = plays.to;
+        made = record { happened = mounted.happened; mounted = mounted.found; said = refl };
+        played = plays.played.played;
+        count = 0;
+        counted = image-counted (limits_of extent) plays.to mkfs lines (nothing_planned 0) part plays.played.parts refl plays.played.played plays.played.no_fault;
+      };
+      more = subst (IsSafeWhereTold told) (parts-end (limits_of extent) mounted.start plays.to lines plays.played.parts plays.played.played) plays.safe;
       printed = ap (λ t. mkfs_text extent ++ t) plays.played.printed;
-    },
-    plays.safe,
-  ),
-)
+    }
 
 -- the text of the `mkfs` line before what the lines after it print
 pub Ends-mkfs : {D : Type 0} (extent : Extent) (first told : Option Contents) (core : Seen D) (lines : List Line) (s : Status) (out : List ℕ)
     → geometry_of extent ≡ Ok extent → (mounted : IsMounted extent first core) → Ends (λ t. PlaysFrom t (limits_of extent) mounted.start) told lines s out
-    → Ends PlaysScript told (Mkfs extent.blocks extent.nat ∷ lines) s (mkfs_text extent ++ out)
-Ends-mkfs extent first told core lines status.Done out sizes mounted ends = PlaysScript-mkfs extent first told core lines out sizes mounted ends
+    → Ends PlaysFlat told (Mkfs extent.blocks extent.nat ∷ lines) s (mkfs_text extent ++ out)
+Ends-mkfs extent first told core lines status.Done out sizes mounted ends = PlaysFlat-mkfs extent first told core lines out sizes mounted ends
 Ends-mkfs extent first told core lines status.Memory out sizes mounted ends =
-    record { count = suc ends.count; holds = PlaysScript-mkfs extent first None core (take ends.count lines) out sizes mounted ends.holds }
+    record { count = suc ends.count; holds = PlaysFlat-mkfs extent first None core (take ends.count lines) out sizes mounted ends.holds }
 Ends-mkfs extent first told core lines status.SinkFault out sizes mounted ends = record {
   text = mkfs_text extent ++ ends.text;
-  first = record { count = suc ends.first.count; holds = PlaysScript-mkfs extent first None core (take ends.first.count lines) ends.text sizes mounted ends.first.holds };
+  first = record { count = suc ends.first.count; holds = PlaysFlat-mkfs extent first None core (take ends.first.count lines) ends.text sizes mounted ends.first.holds };
   cut = record { rest = ends.cut.rest; whole = ap (λ t. mkfs_text extent ++ t) ends.cut.whole ∙ sym (append_assoc (mkfs_text extent) out ends.cut.rest) };
 }
 Ends-mkfs extent first told core lines status.Usage out sizes mounted ends = absurd ends
@@ -136,7 +144,7 @@ Ends-mkfs extent first told core lines status.SourceFault out sizes mounted ends
 Ends-mkfs extent first told core lines (status.Geometry limit value) out sizes mounted ends = absurd ends
 
 -- a script whose sizes break no limit
-pub EndsScript-of : (told : Option Contents) (lines : List Line) (s : Status) (out : List ℕ) → Ends PlaysScript told lines s out → EndsScript told lines s out
+pub EndsScript-of : (told : Option Contents) (lines : List Line) (s : Status) (out : List ℕ) → Ends PlaysFlat told lines s out → EndsScript told lines s out
 EndsScript-of told lines status.Done out ends = ends
 EndsScript-of told lines status.Memory out ends = ends
 EndsScript-of told lines status.SinkFault out ends = ends
@@ -153,15 +161,15 @@ lines-first lines items all rest first one e f g h = sym (f ∙ e) ∙ g ∙ ap 
 -- a script whose sizes break no limit
 pub EndsScript-mkfs : (told : Option Contents) (old new : Option (List ℕ)) (lines rest : List Line) (asked got : Extent) (s : Status)
     → lines ≡ Mkfs asked.blocks asked.nat ∷ rest → Ok got ≡ geometry_of asked
-    → (out : List ℕ) × Appends old new out × Ends PlaysScript told (Mkfs got.blocks got.nat ∷ rest) s out → (out : List ℕ) × Appends old new out × EndsScript told lines s out
+    → (out : List ℕ) × Appends old new out × Ends PlaysFlat told (Mkfs got.blocks got.nat ∷ rest) s out → (out : List ℕ) × Appends old new out × EndsScript told lines s out
 EndsScript-mkfs told old new lines rest asked got s is sizes (out, written, ends) =
     let same : got ≡ asked = geometry_of-ok asked got (sym sizes) in
     let all : Mkfs got.blocks got.nat ∷ rest ≡ lines = ap (λ (e : Extent). Mkfs e.blocks e.nat ∷ rest) same ∙ sym is in
-    (out, written, EndsScript-of told lines s out (subst (λ ls. Ends PlaysScript told ls s out) all ends))
+    (out, written, EndsScript-of told lines s out (subst (λ ls. Ends PlaysFlat told ls s out) all ends))
 
 -- a script whose sizes break one
 pub BreaksLimit-of : (lines rest : List Line) (asked : Extent) (bad : BadGeometry) → lines ≡ Mkfs asked.blocks asked.nat ∷ rest → Err bad ≡ geometry_of asked → BreaksLimit lines bad.limit bad.value
-BreaksLimit-of lines rest asked bad is broken = record { extent = asked; rest = rest; first = is; broken = sym broken }
+BreaksLimit-of lines rest asked bad is broken = subst (λ ls. BreaksLimit ls bad.limit bad.value) (sym is) (sym broken)
 
 pub EndsScript-broken : (now : Option (List ℕ)) (lines rest : List Line) (asked : Extent) (bad : BadGeometry)
     → lines ≡ Mkfs asked.blocks asked.nat ∷ rest → Err bad ≡ geometry_of asked
@@ -172,7 +180,7 @@ EndsScript-broken now lines rest asked bad is broken =
 -- the sink failed within the text of the `mkfs` line
 pub mkfs-fails : {D : Type 0} (extent : Extent) (first : Option Contents) (core : Seen D) (lines : List Line) (old new : Option (List ℕ)) (text : List ℕ)
     → geometry_of extent ≡ Ok extent → IsMounted extent first core → text ≡ mkfs_text extent → PutsSome old new text
-    → (out : List ℕ) × Appends old new out × SomeCut (PlaysScript None) (Mkfs extent.blocks extent.nat ∷ lines) out
+    → (out : List ℕ) × Appends old new out × SomeCut (PlaysFlat None) (Mkfs extent.blocks extent.nat ∷ lines) out
 mkfs-fails extent first core lines old new text sizes mounted e some = (
   some.gone,
   some.written,
@@ -180,7 +188,7 @@ mkfs-fails extent first core lines old new text sizes mounted e some = (
     text = mkfs_text extent ++ [];
     first = record {
       count = suc zero;
-      holds = PlaysScript-mkfs extent first None core [] [] sizes mounted record { to = mounted.start; played = PlaysTo-none (limits_of extent) mounted.start; safe = tt };
+      holds = PlaysFlat-mkfs extent first None core [] [] sizes mounted record { to = mounted.start; played = PlaysTo-none (limits_of extent) mounted.start; safe = tt };
     };
     cut = record { rest = some.cut.rest; whole = append-nil (mkfs_text extent) ∙ sym e ∙ some.cut.whole };
   },
@@ -190,7 +198,7 @@ mkfs-fails extent first core lines old new text sizes mounted e some = (
 pub mkfs-goes : {D : Type 0} (extent : Extent) (first told : Option Contents) (core : Seen D) (lines : List Line) (s : Status) (old mid new : Option (List ℕ)) (text : List ℕ)
     → geometry_of extent ≡ Ok extent → IsMounted extent first core → text ≡ mkfs_text extent → Appends old mid text
     → ((from : State) → IsAt first core from → (out : List ℕ) × Appends mid new out × Ends (λ t. PlaysFrom t (limits_of core.geometry) from) told lines s out)
-    → (out : List ℕ) × Appends old new out × Ends PlaysScript told (Mkfs extent.blocks extent.nat ∷ lines) s out
+    → (out : List ℕ) × Appends old new out × Ends PlaysFlat told (Mkfs extent.blocks extent.nat ∷ lines) s out
 mkfs-goes extent first told core lines s old mid new text sizes mounted e written runs =
     let ended = runs mounted.start mounted.at in
     let ends : Ends (λ t. PlaysFrom t (limits_of extent) mounted.start) told lines s ended.0 =

@@ -4,7 +4,6 @@ use Rattle.std.specs.Prelude.{Option, None, OnOk}
 use Rattle.std.specs.List.{AllByRecursion}
 use Rattle.std.specs.Io.KnownBytes.{Appends}
 use Rattle.std.proofs.KnownBytes.{Appends-nil, Appends-trans}
-use Rattle.std.proofs.lemmas.Grind.{flat_map-append}
 use Rattle.std.proofs.Math.Seq.{take-append_seam}
 use Rattle.f2_disk.specs.Contents.{Contents}
 use Rattle.f2_model.specs.declared.bounds.Limits.{Limits}
@@ -12,33 +11,25 @@ use Rattle.f2_model.specs.State.{State}
 use Rattle.f2_flat.specs.Flat.{limits_of}
 use Rattle.f2_core.specs.Seen.{Seen}
 use Rattle.f2_script.specs.declared.script.Line.{Line}
-use Rattle.f2_top.specs.Plays.{Part, PlaysLine, PlaysLines, IsSafeWhereTold, text_of}
-use Rattle.f2_top.specs.Runs.{IsAt, PlaysAs, PlaysOn, PlaysTo, PlaysFrom, SomePrint, SomeCut}
+use Rattle.f2_play.specs.Lines.{PlaysLines}
+use Rattle.f2_play.proofs.Playing.{all-snoc, PlaysLines-snoc, text_of-snoc}
+use Rattle.f2_top.specs.Left.{IsSafeWhereTold}
+use Rattle.f2_top.specs.Runs.{IsCalm, IsAt, PlaysAs, PlaysOn, PlaysTo, PlaysFrom, SomePrint, SomeCut}
 use Rattle.f2_top.specs.Streams.{IsCutAfter, PutsSome}
-
--- lines, and then one line more
-pub PlaysLines-snoc : (limits : Limits) (from mid : State) (lines : List Line) (parts : List Part) (line : Line) (part : Part)
-    → PlaysLines limits from lines parts mid → PlaysLine limits mid line part → PlaysLines limits from (lines ++ line ∷ []) (parts ++ part ∷ []) part.after
-PlaysLines-snoc limits from mid [] [] line part first last = (subst (λ s. PlaysLine limits s line part) (sym first) last, refl)
-PlaysLines-snoc limits from mid [] (p ∷ parts) line part first last = absurd first
-PlaysLines-snoc limits from mid (l ∷ lines) [] line part first last = absurd first
-PlaysLines-snoc limits from mid (l ∷ lines) (p ∷ parts) line part first last = (first.0, PlaysLines-snoc limits p.after mid lines parts line part first.1 last)
 
 -- no line yet
 pub PlaysTo-none : (limits : Limits) (from : State) → PlaysTo limits from [] [] from
-PlaysTo-none limits from = record { parts = []; played = refl; printed = refl }
+PlaysTo-none limits from = record { parts = []; no_fault = tt; played = refl; printed = refl }
 
 -- one line more, and what it prints
 pub PlaysTo-snoc : (limits : Limits) (from mid to : State) (lines : List Line) (line : Line) (text more : List ℕ)
     → PlaysTo limits from lines text mid → PlaysAs limits mid line more to → PlaysTo limits from (lines ++ line ∷ []) (text ++ more) to
 PlaysTo-snoc limits from mid to lines line text more first last = record {
   parts = first.parts ++ last.part ∷ [];
+  no_fault = all-snoc IsCalm first.parts last.part first.no_fault last.no_fault;
   played = subst (λ s. PlaysLines limits from (lines ++ line ∷ []) (first.parts ++ last.part ∷ []) s) last.after
       (PlaysLines-snoc limits from mid lines first.parts line last.part first.played last.line_played);
-  printed =
-      ap (λ t. t ++ more) first.printed
-      ∙ ap (λ t. text_of first.parts ++ t) (sym last.printed ∙ sym (append-nil last.part.text))
-      ∙ sym (flat_map-append (λ part. part.text) first.parts (last.part ∷ []));
+  printed = text_of-snoc first.parts last.part text more first.printed last.printed;
 }
 
 -- how far a run of lines has come: the lines that were played and those that are left

@@ -1,6 +1,6 @@
 -- From the lines of a script to what its bytes tell.
-use Rattle.std.proofs.Common.{◌≡◌, ℕ, ◌≤◌, arith, inl, true, false, List, [], ◌∷◌, ◌++◌, refl, sym, ap, ◌∙◌, subst, append_assoc, append-nil, inr, Result, Ok, Err}
-use Rattle.std.specs.Prelude.{◌≢◌, codes, Option, None}
+use Rattle.std.proofs.Common.{◌≡◌, ℕ, arith, inl, true, false, List, [], ◌∷◌, ◌++◌, refl, sym, ap, ◌∙◌, subst, append_assoc, append-nil, inr, Result, Ok, Err, take, drop, take-append-drop}
+use Rattle.std.specs.Prelude.{codes, Option, None}
 use Rattle.std.specs.List.{AllByRecursion}
 use Rattle.f2_disk.specs.Contents.{Contents}
 use Rattle.f2_model.specs.declared.requests.Request.TheVariants as request
@@ -15,13 +15,16 @@ use Rattle.f2_script.specs.Lines.{Seat, request_words}
 use Rattle.f2_script.specs.Words.{Word, Said, AreWords, split_words}
 use Rattle.f2_model.specs.Step.{IsSeat}
 use Rattle.f2_model.specs.declared.requests.Request.{Request}
-use Rattle.f2_top.specs.declared.status.Status.{Status}
-use Rattle.f2_top.specs.declared.status.Status.TheVariants as status
-use Rattle.f2_top.specs.Endings.{IsSilent, last_line}
+use Rattle.f2_play.specs.declared.status.Status.{Status}
+use Rattle.f2_play.specs.declared.status.Status.TheVariants as status
+use Rattle.f2_play.specs.Endings.{IsSilent, last_line}
+use Rattle.f2_play.specs.Scripts.{PlaysFirst, Prints}
+use Rattle.f2_flat.specs.Flat.{FILE_SIZE}
+use Rattle.f2_top.specs.Left.{Leaves, replay_scope}
 use Rattle.f2_top.specs.Reads.{TakesScript}
-use Rattle.f2_top.specs.Replay.{Prints, IsCutOff, Writes, IsUnread, Replays, read, unread, Finishes, said_whole, broken_off, IsReplayed, IsRefused, said, cut_off}
+use Rattle.f2_top.specs.Replay.{IsCutOff, Writes, IsUnread, Replays, read, unread, Finishes, said_whole, broken_off, IsReplayed, IsRefused, said, cut_off}
 use Rattle.f2_top.specs.Runs as runs
-use Rattle.f2_top.specs.Runs.{IsPlayable, IsPlayableScript, EndsScript, WritesFirst, Ran}
+use Rattle.f2_top.specs.Runs.{IsPlayable, IsPlayableScript, PlaysFlat, SomePrint, EndsScript, WritesFirst, Ran}
 use Rattle.std.specs.Io.KnownBytes.{Appends}
 use Rattle.std.proofs.KnownBytes.{Appends-nil, Appends-trans}
 use Rattle.f2_top.specs.Streams.{IsCutAfter}
@@ -65,18 +68,27 @@ playable-script (text ∷ texts) (line ∷ lines) h = let e : false ≡ true = h
 pub Spells-playable : (bytes : List ℕ) (lines : List Line) → Spells grammar.Replay bytes lines → IsPlayableScript lines
 Spells-playable bytes lines h = playable-script (lines_of bytes) lines h
 
+-- some first lines
+first-lines : (lines : List Line) (out : List ℕ) → SomePrint (PlaysFlat None) lines out → PlaysFirst FILE_SIZE (Leaves None status.Memory) lines out
+first-lines lines out some = record {
+  first = take some.count lines;
+  rest = drop some.count lines;
+  whole = sym (take-append-drop some.count lines);
+  played = record { parts = some.holds.parts; played = some.holds.played; more = tt; printed = some.holds.printed };
+}
+
 -- what went out of the lines that bytes are
 pub WritesFirst-lines : (told : Option Contents) (bytes : List ℕ) (lines : List Line) (s : Status) (out : List ℕ)
     → ¬ (IsTooLong bytes) → Spells grammar.Replay bytes lines → EndsScript told lines s out → WritesFirst told bytes s out
 WritesFirst-lines told bytes lines status.Done out fits spelled ends = record { fits = fits; lines = lines; spelled = spelled; holds = ends }
 WritesFirst-lines told bytes lines status.Memory out fits spelled ends =
-    inr record { fits = fits; lines = lines; spelled = spelled; holds = record { count = ends.count; played = ends.holds } }
+    inr record { fits = fits; lines = lines; spelled = spelled; holds = first-lines lines out ends }
 WritesFirst-lines told bytes lines status.SinkFault out fits spelled ends = record {
   status = status.Memory;
   text = ends.text;
   first = record {
     text = ends.text;
-    printed = inr record { fits = fits; lines = lines; spelled = spelled; holds = record { count = ends.first.count; played = ends.first.holds } };
+    printed = inr record { fits = fits; lines = lines; spelled = spelled; holds = first-lines lines ends.text ends.first };
     whole = sym (append-nil ends.text);
   };
   cut = ends.cut;
@@ -114,7 +126,7 @@ Ran-told told old new s out (runs.read bytes taken wrote) = read bytes taken (Wr
 Ran-told told old new s out (runs.unread taken none empty) = unread taken none (ap (λ t. t ++ last_line s) empty ∙ unread-silent s none)
 
 -- the sink failed within the last line
-cut-last : (bytes : List ℕ) (s : Status) (out gone : List ℕ) → Prints None bytes s out → IsCutAfter gone (last_line s) → IsCutOff bytes (out ++ gone)
+cut-last : (bytes : List ℕ) (s : Status) (out gone : List ℕ) → Prints replay_scope (Leaves None) bytes s out → IsCutAfter gone (last_line s) → IsCutOff bytes (out ++ gone)
 cut-last bytes s out gone printed cut = record {
   status = s;
   text = out ++ last_line s;

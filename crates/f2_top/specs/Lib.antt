@@ -1,9 +1,7 @@
--- What a run of a command prints, and how it ends.
-pub mod Endings
-pub mod Plays
+-- What a run of a command writes, how it ends, and what it leaves on its bench.
+pub mod Left
 pub mod Reads
 pub mod Streams
 pub mod Runs
 pub mod Replay
-pub mod Due
 pub mod Words

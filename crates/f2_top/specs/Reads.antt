@@ -1,5 +1,5 @@
 -- Reading a script from a source.
-use Rattle.std.specs.Prelude.{ℕ, ◌≤◌, List, length, Option}
+use Rattle.std.specs.Prelude.{◌≡◌, ℕ, ◌≤◌, List, ◌++◌, length, Option, Some}
 use Rattle.std.specs.Io.KnownBytes.{Consumes, IsAtEnd}
 
 -- the most bytes of a script
@@ -14,3 +14,9 @@ pub record TakesScript (old new : Option (List ℕ)) (bytes : List ℕ) : Type 0
 -- some bytes were taken from a source
 abbrev pub TakesSome : Option (List ℕ) → Option (List ℕ) → Type 0
 TakesSome old new = (bytes : List ℕ) × Consumes old new bytes
+
+-- these bytes were taken from a source that tells what it has
+pub record IsTaken (old new : Option (List ℕ)) (bytes : List ℕ) : Type 0 where
+  pub rest : List ℕ
+  pub before : old ≡ Some (bytes ++ rest)
+  pub after : new ≡ Some rest

@@ -12,17 +12,22 @@ use Rattle.f2_model.specs.Step.{calm}
 use Rattle.f2_model.specs.declared.events.Event.{Event}
 use Rattle.f2_model.specs.declared.events.Event.TheVariants.{Begin}
 use Rattle.f2_model.specs.declared.events.Answer.{Answer}
-use Rattle.f2_flat.specs.Flat.{limits_of}
-use Rattle.f2_core.specs.Events.{ComesTo, IsMount, IsServed}
-use Rattle.f2_core.specs.Seen.{Seen, IsIn, new_image}
+use Rattle.f2_model.specs.declared.replies.Reply.TheVariants.{Synced}
+use Rattle.f2_flat.specs.Flat.{FILE_SIZE, limits_of}
+use Rattle.f2_core.specs.Events.{ComesTo, IsServed}
+use Rattle.f2_core.specs.Seen.{Seen, IsIn}
 use Rattle.f2_script.specs.declared.script.Line.{Line}
 use Rattle.f2_script.specs.declared.script.Line.TheVariants.{Mkfs, Call, Crash, Tree}
 use Rattle.f2_script.specs.declared.script.Line.TheVariants as kind
-use Rattle.f2_top.specs.declared.status.Status.{Status}
-use Rattle.f2_top.specs.declared.status.Status.TheVariants.{Done, Usage, TooLong, Script, SourceFault, SinkFault, Geometry, Memory}
-use Rattle.f2_top.specs.Plays.{Part, PlaysLine, PlaysLines, PlaysScript, IsSafeWhereTold, text_of}
+use Rattle.f2_play.specs.declared.status.Status.{Status}
+use Rattle.f2_play.specs.declared.status.Status.TheVariants.{Done, Usage, TooLong, Script, SourceFault, SinkFault, Geometry, Memory}
+use Rattle.f2_play.specs.Parts.{Part, text_of}
+use Rattle.f2_play.specs.Calls.{Mounts}
+use Rattle.f2_play.specs.Lines.{PlaysLine, PlaysLines, new_image}
+use Rattle.f2_play.specs.Scripts.{BreaksLimit, PlaysAll, Prints}
+use Rattle.f2_top.specs.Left.{IsSafeWhereTold, IsSafeAfter, Leaves, replay_scope}
 use Rattle.f2_top.specs.Reads.{TakesScript, TakesSome}
-use Rattle.f2_top.specs.Replay.{BreaksLimit, Prints, IsCutOff, IsUnread}
+use Rattle.f2_top.specs.Replay.{IsCutOff, IsUnread}
 use Rattle.f2_top.specs.Streams.{IsCutAfter}
 
 -- the lines that follow a `mkfs` line so far: of calls those that a core takes
@@ -39,9 +44,14 @@ IsPlayableScript [] = Unit {0}
 IsPlayableScript (Mkfs blocks nat ∷ lines) = AllByRecursion IsPlayable lines
 IsPlayableScript (_ ∷ lines) = ⊥
 
+-- in a part no call of the disk failed
+abbrev pub IsCalm : Part → Type 0
+IsCalm part = part.faults ≡ calm
+
 -- a line printed a text, and led from a state to another
 pub record PlaysAs (limits : Limits) (from : State) (line : Line) (text : List ℕ) (to : State) : Type 0 where
   pub part : Part
+  pub no_fault : IsCalm part
   pub line_played : PlaysLine limits from line part
   pub printed : part.text ≡ text
   pub after : part.after ≡ to
@@ -49,6 +59,7 @@ pub record PlaysAs (limits : Limits) (from : State) (line : Line) (text : List �
 -- lines print a text, and lead from a state to another
 pub record PlaysTo (limits : Limits) (from : State) (lines : List Line) (text : List ℕ) (to : State) : Type 0 where
   pub parts : List Part
+  pub no_fault : AllByRecursion IsCalm parts
   pub played : PlaysLines limits from lines parts to
   pub printed : text ≡ text_of parts
 
@@ -88,10 +99,14 @@ PlaysOn then now old new line text = (from : State) → IsAt then old from → (
 pub record IsMounted {D : Type 0} (extent : Extent) (told : Option Contents) (core : Seen D) : Type 0 where
   pub mounted : List Happening
   pub start : State
-  pub found : IsMount 0 mounted
+  pub found : Mounts 0 Synced mounted
   pub happened : Happened (limits_of extent) calm (initial new_image) mounted start
   pub sizes : core.geometry ≡ extent
   pub at : IsAt told core start
+
+-- what the lines of a script print, and what they leave on a disk where it is told
+abbrev pub PlaysFlat : Option Contents → List Line → List ℕ → Type 0
+PlaysFlat told lines text = PlaysAll FILE_SIZE (λ played parts. IsSafeAfter told parts) lines text
 
 -- some first lines print this, where P says what lines print
 pub record SomePrint (P : List Line → List ℕ → Type 0) (lines : List Line) (text : List ℕ) : Type 0 where
@@ -118,7 +133,7 @@ Ends P told lines (Geometry limit value) out = ⊥
 -- what went out of a script, whose sizes may break a limit
 abbrev pub EndsScript : Option Contents → List Line → Status → List ℕ → Type 0
 EndsScript told lines (Geometry limit value) out = BreaksLimit lines limit value × (out ≡ [])
-EndsScript told lines status out = Ends PlaysScript told lines status out
+EndsScript told lines status out = Ends PlaysFlat told lines status out
 
 -- the statuses that the lines after a `mkfs` line end with
 abbrev pub IsPlayed : Status → Type 0
@@ -136,7 +151,7 @@ IsDueLines lines status = IsPlayed status
 -- what went out before the last line of a status
 abbrev pub WritesFirst : Option Contents → List ℕ → Status → List ℕ → Type 0
 WritesFirst told bytes SinkFault out = IsCutOff bytes out
-WritesFirst told bytes status out = Prints told bytes status out
+WritesFirst told bytes status out = Prints replay_scope (Leaves told) bytes status out
 
 -- the same, where the script may not have been read
 pub data Ran (told : Option Contents) (old new : Option (List ℕ)) (status : Status) (out : List ℕ) : Type 0 where

@@ -1,16 +1,18 @@
 //! The top calls.
 ghost use Rattle.std.specs.Prelude.{◌≡◌, ◌≤◌, ◌⊎◌, ◌↔◌, ℕ, List, IsTrue, map, string_bytes};
 ghost use Rattle.f2_disk.specs.Faults.{Rose};
-ghost use Rattle.f2_top.specs.Due.{IsTaken, IsDue};
-ghost use Rattle.f2_top.specs.Endings.{IsSilent};
+ghost use Rattle.f2_script.specs.declared.script.Grammar.TheVariants.{Replay};
+ghost use Rattle.f2_play.specs.Due.{IsDue};
+ghost use Rattle.f2_play.specs.Endings.{IsSilent};
+ghost use Rattle.f2_top.specs.Reads.{IsTaken};
 ghost use Rattle.f2_top.specs.Words.{IsReplay};
 ghost use Rattle.f2_top.specs.Replay.{CountsFaults, Finishes, IsReplayed, IsRefused};
 
 use crate::output::put_last_line;
 use crate::replay::replay;
-use crate::status::Status;
 use f2_disk::{Bench, Disk, Sink, Source};
 use f2_model::Meet;
+use f2_play::Status;
 use std::alloc::Global;
 use std::sync::Wait;
 use std::thread::Threads;
@@ -53,7 +55,7 @@ pub fn run_plain<S: Source, K: Sink, B: Bench, D: Disk>(
 
     // Each status comes exactly where the bytes are due it, unless a fault or want of memory comes between.
     ensures due { IsReplay (map string_bytes words.now)
-        → (bytes : List ℕ) → IsTaken (S.remaining source.old) (S.remaining source.new) bytes → IsDue bytes result.0 }
+        → (bytes : List ℕ) → IsTaken (S.remaining source.old) (S.remaining source.new) bytes → IsDue Replay bytes result.0 }
 
     // Other words are no command: nothing is read, and only that is said.
     ensures usage { ¬ (IsReplay (map string_bytes words.now)) → IsRefused (K.written sink.old) (K.written sink.new) result.0 }
@@ -87,7 +89,7 @@ pub fn run<R: Threads + Wait + Sync, S: Source, K: Sink, B: Bench, D: Disk + Sen
     ensures replayed { IsReplay (map string_bytes words.now) → CountsFaults (B.meter bench)
         → IsReplayed (B.contents result.1) (S.remaining source.old) (S.remaining source.new) (K.written sink.old) (K.written sink.new) result.0 }
     ensures due { IsReplay (map string_bytes words.now)
-        → (bytes : List ℕ) → IsTaken (S.remaining source.old) (S.remaining source.new) bytes → IsDue bytes result.0 }
+        → (bytes : List ℕ) → IsTaken (S.remaining source.old) (S.remaining source.new) bytes → IsDue Replay bytes result.0 }
 
     ensures usage { ¬ (IsReplay (map string_bytes words.now)) → IsRefused (K.written sink.old) (K.written sink.new) result.0 }
     ensures unread { ¬ (IsReplay (map string_bytes words.now)) → source.new ≡ source.old }

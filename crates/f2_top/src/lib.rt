@@ -5,9 +5,9 @@
 //! a crash may leave of the bench after a script that was run to its end stands for what that machine allows; and a fault
 //! of the source or the sink is answered only where that object's count of faults rose.
 //!
-//! `specs/Plays.antt` says what the lines of a script print and the events that they make, `specs/Replay.antt` what
-//! `replay` prints by its status, `specs/Endings.antt` has the statuses' numbers and last lines, `specs/Words.antt`
-//! the words of the commands.
+//! `f2_play` says what the lines of a script print and the events that they make, what is printed of bytes by the status,
+//! and the statuses' numbers and last lines. Here `specs/Left.antt` says what a script leaves on a bench,
+//! `specs/Replay.antt` what `replay` writes, `specs/Words.antt` has the words of the commands.
 #![tactic(auto)]
 
 mod commands;
@@ -15,7 +15,6 @@ mod input;
 mod output;
 mod player;
 mod replay;
-mod status;
 
 pub use commands::{run, run_plain};
-pub use status::Status;
+pub use f2_play::Status;

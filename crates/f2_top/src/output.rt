@@ -1,12 +1,11 @@
 //! Writing texts to a sink.
 ghost use Rattle.std.specs.Prelude.{◌≡◌, ◌∷◌, ◌++◌, [], decimal, IsOk};
 ghost use Rattle.f2_disk.specs.Faults.{HasCause};
+ghost use Rattle.f2_play.specs.Endings.{IsSilent, last_line, numbered_line};
 ghost use Rattle.f2_top.specs.Streams.{Puts};
-ghost use Rattle.f2_top.specs.Endings.{IsSilent, last_line, numbered_line, limit_head as head_of_limit};
 
-use crate::status::Status;
 use f2_disk::{Failed, Sink};
-use f2_layout::Limit;
+use f2_play::{Status, limit_head};
 use itoa::Buffer;
 
 /// Writes a text as a whole.
@@ -41,19 +40,6 @@ fn put_numbered<K: Sink>(sink: &mut K, head: &[u8], number: u32) -> Result<(), F
 {
     put(sink, head)?;
     put_number(sink, number)
-}
-
-/// What stands before the number in the line of a broken limit.
-fn limit_head(limit: Limit) -> &'static [u8]
-    ensures { result.now ≡ head_of_limit limit }
-{
-    match limit {
-        Limit::Blocks => b"f2n: geometry blocks ",
-        Limit::Nat => b"f2n: geometry nat ",
-        Limit::Zones => b"f2n: geometry zones ",
-        Limit::Nids => b"f2n: geometry nids ",
-        Limit::Device => b"f2n: geometry device ",
-    }
 }
 
 /// Writes the last line of a status, where it has one.

@@ -1,5 +1,5 @@
 //! Running the lines of a script on a volume.
-ghost use Rattle.std.specs.Prelude.{◌≡◌, ◌≤◌, ℕ, List, [], ◌∷◌, ◌++◌, IfOk, IsSome, Ok};
+ghost use Rattle.std.specs.Prelude.{◌≡◌, ◌≤◌, ℕ, List, ◌∷◌, IfOk, IsSome, Ok};
 ghost use Rattle.std.specs.List.{AllByRecursion};
 ghost use Rattle.std.specs.Vec.Iter.{into_iter_items};
 ghost use Rattle.std.specs.Io.KnownBytes.{Appends};
@@ -11,44 +11,40 @@ ghost use Rattle.f2_flat.specs.Flat.{limits_of};
 ghost use Rattle.f2_model.specs.declared.events.Event.TheVariants as event;
 ghost use Rattle.f2_script.specs.declared.script.Line.TheVariants as line;
 ghost use Rattle.f2_script.specs.Replies.{reply_spelling};
-ghost use Rattle.f2_top.specs.Plays.{mkfs_text as text_of_mkfs, PlaysScript};
+ghost use Rattle.f2_script.specs.Steps.{made_spelling};
+ghost use Rattle.f2_format.specs.Geometry.{node_third, data_third};
+ghost use Rattle.f2_play.specs.Lines.{ended as line_of};
 ghost use Rattle.f2_top.specs.Replay.{CountsFaults};
-ghost use Rattle.f2_top.specs.Runs.{IsPlayable, IsPlayableScript, IsCalmMeter, StaysCalm, Comes, IsAt, PlaysOn, PlaysFrom, IsMounted, IsPlayed, IsDueLines, Ends, EndsScript};
+ghost use Rattle.f2_top.specs.Runs.{IsPlayable, IsPlayableScript, IsCalmMeter, StaysCalm, Comes, IsAt, PlaysOn, PlaysFrom, PlaysFlat, IsMounted, IsPlayed, IsDueLines, Ends, EndsScript};
 
 use crate::output::put;
-use crate::status::Status;
 use f2_core::{Core, making_writes};
 use f2_disk::{Bench, Sink};
 use f2_layout::{BadGeometry, Geometry};
 use f2_model::{Answer, Begun, Event, Reply, Request};
-use f2_script::{Line, Lines, found_text, mounted_text, reply_text, tree_text};
-use itoa::Buffer;
+use f2_play::Status;
+use f2_script::{Line, Lines, found_text, made_text, mounted_text, reply_text, tree_text};
 use std::alloc::{AllocError, Global};
 use std::vec::IntoIter;
 
-/// What a `mkfs` line prints.
-fn mkfs_text(alloc: Global, geometry: &Geometry) -> Result<Vec<u8>, AllocError>
-    ensures { IfOk result (λ text. text.items ≡ text_of_mkfs geometry.now) }
+/// The end of a line after a text.
+fn ended(mut text: Vec<u8>) -> Result<Vec<u8>, AllocError>
+    ensures { IfOk result (λ line. line.items ≡ line_of text.items) }
 {
-    let mut text = Vec::from_slice(alloc, b"ok mkfs ")?;
-    text.extend_from_slice(Buffer::new().format(geometry.cn()).as_bytes())?;
-    text.push(b' ')?;
-    text.extend_from_slice(Buffer::new().format(geometry.cd()).as_bytes())?;
     text.push(b'\n')?;
     Ok(text)
 }
 
-/// The end of a line after a text.
-fn ended(mut text: Vec<u8>) -> Result<Vec<u8>, AllocError>
-    ensures { IfOk result (λ line. line.items ≡ text.items ++ 10 ∷ []) }
+/// The line that is printed for an image of these sizes.
+fn mkfs_line(alloc: Global, geometry: &Geometry) -> Result<Vec<u8>, AllocError>
+    ensures { IfOk result (λ text. text.items ≡ line_of (made_spelling (node_third geometry.now) (data_third geometry.now))) }
 {
-    text.push(b'\n')?;
-    Ok(text)
+    ended(made_text(alloc, geometry.cn(), geometry.cd())?)
 }
 
 /// The line that is printed for a reply.
 fn reply_line(alloc: Global, reply: &Reply) -> Result<Vec<u8>, AllocError>
-    ensures { IfOk result (λ text. text.items ≡ reply_spelling reply.now ++ 10 ∷ []) }
+    ensures { IfOk result (λ text. text.items ≡ line_of (reply_spelling reply.now)) }
 {
     ended(reply_text(alloc, reply)?)
 }
@@ -204,7 +200,7 @@ fn play_image<K: Sink, B: Bench>(
     requires sizes { geometry_of geometry.now ≡ Ok geometry.now }
     requires lines { AllByRecursion IsPlayable (into_iter_items lines) }
     ensures ends { CountsFaults (B.meter bench) → (out : List ℕ) × Appends (K.written sink.old) (K.written sink.new) out
-        × Ends PlaysScript (B.contents result.1) (line.Mkfs geometry.now.blocks geometry.now.nat ∷ into_iter_items lines) result.0 out }
+        × Ends PlaysFlat (B.contents result.1) (line.Mkfs geometry.now.blocks geometry.now.nat ∷ into_iter_items lines) result.0 out }
     ensures played { IsPlayed result.0 }
     ensures later { K.faults sink.old ≤ K.faults sink.new }
     ensures cause { result.0 ≡ Status.SinkFault → Rose (K.faults sink.old) (K.faults sink.new) }
@@ -213,7 +209,7 @@ fn play_image<K: Sink, B: Bench>(
         Ok(core) => core,
         Err(bench) => return (Status::Memory, bench),
     };
-    let Ok(text) = mkfs_text(alloc, geometry) else {
+    let Ok(text) = mkfs_line(alloc, geometry) else {
         return (Status::Memory, core.into_disk());
     };
     if put(sink, text.as_slice()).is_err() {

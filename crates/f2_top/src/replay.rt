@@ -2,14 +2,16 @@
 ghost use Rattle.std.specs.Prelude.{◌≡◌, ◌≤◌, ℕ, List};
 ghost use Rattle.std.specs.Io.KnownBytes.{Appends};
 ghost use Rattle.f2_disk.specs.Faults.{Rose};
-ghost use Rattle.f2_top.specs.Due.{IsTaken, IsDue};
+ghost use Rattle.f2_script.specs.declared.script.Grammar.TheVariants.{Replay};
+ghost use Rattle.f2_play.specs.Due.{IsDue};
+ghost use Rattle.f2_top.specs.Reads.{IsTaken};
 ghost use Rattle.f2_top.specs.Replay.{CountsFaults};
 ghost use Rattle.f2_top.specs.Runs.{Ran};
 
 use crate::input::{Unread, read_script};
 use crate::player::play;
-use crate::status::Status;
 use f2_disk::{Bench, Sink, Source};
+use f2_play::Status;
 use f2_script::{Grammar, ScriptFault, parse};
 use std::alloc::Global;
 
@@ -22,7 +24,7 @@ pub(crate) fn replay<S: Source, K: Sink, B: Bench>(
 ) -> (Status, B)
     ensures ran { CountsFaults (B.meter bench) → (out : List ℕ) × Appends (K.written sink.old) (K.written sink.new) out
         × Ran (B.contents result.1) (S.remaining source.old) (S.remaining source.new) result.0 out }
-    ensures due { (bytes : List ℕ) → IsTaken (S.remaining source.old) (S.remaining source.new) bytes → IsDue bytes result.0 }
+    ensures due { (bytes : List ℕ) → IsTaken (S.remaining source.old) (S.remaining source.new) bytes → IsDue Replay bytes result.0 }
     ensures read { result.0 ≡ Status.SourceFault → Rose (S.faults source.old) (S.faults source.new) }
     ensures silent { result.0 ≡ Status.SourceFault → sink.new ≡ sink.old }
     ensures later { K.faults sink.old ≤ K.faults sink.new }

@@ -12,5 +12,5 @@ returns-in_default-reply-clause-played g c =
     let comes : Comes (g.B.Disk.contents c.args.core.now.disk) (g.B.Disk.contents c.step.new.core.disk) c.args.core.now c.step.new.core
     (Begin c.args.seat c.args.request) (replied c.in-Began-Replied.reply) =
     rw c.in-Began-Replied.field-0-is at (rw c.in-Began-Replied.is at (c.in_ok-reply.ensures.comes counts)) in
-    PlaysOn-call _ _ c.args.core.now c.step.new.core c.args.seat c.args.request c.in-Began-Replied.reply v.items comes c.in_default-reply.not-Memory h)
+    PlaysOn-call _ _ c.args.core.now c.step.new.core c.args.seat c.args.request c.in-Began-Replied.reply v.items c.requires.served comes c.in_default-reply.not-Memory h)
     c.reply_line.ensures

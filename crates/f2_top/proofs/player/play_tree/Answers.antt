@@ -1,5 +1,5 @@
 use Rattle.std.proofs.Common.{ap, ◌∙◌}
-use Rattle.f2_top.specs.Plays.{tree_shown}
+use Rattle.f2_play.specs.Lines.{tree_shown}
 use Rattle.f2_top.proofs.CoreLemmas.{PlaysOn-tree}
 use Rattle.f2_top.proofs.PlayLemmas.{IfOk-map}
 use Rattle.f2_top.proofs.player.play_tree.Goals as goal
