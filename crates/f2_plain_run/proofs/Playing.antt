@@ -31,7 +31,7 @@ use Rattle.f2_script.specs.Generator.{after, drawn, seat_of, call_of}
 use Rattle.f2_play.specs.Calls.{IsOne, Goes, Passes, Then, IsCall, Generates, at_once, in_flight, waiting, one_more, is_over, is_fine}
 use Rattle.f2_play.specs.Lines.{Says, found, already, closed, refused, ended, live_where_up, tree_shown, shown}
 use Rattle.f2_play.proofs.Playing.{all-snoc}
-use Rattle.f2_plain_run.specs.Stages.{Stage, Comes, Makes, MakesAll, picked, is_found, settled_by}
+use Rattle.f2_plain_run.specs.Stages.{Stage, Comes, Makes, MakesAll, flushed_by, picked, is_found, settled_by}
 use Rattle.f2_plain_run.specs.Chosen.{PlaysOn}
 use Rattle.f2_plain_run.specs.Runs.{Leads, SaysOn}
 
@@ -57,6 +57,7 @@ makes_it one told from to comes = record {
     };
     choices = comes.choices;
     is_settled = comes.is_settled;
+    flushed = comes.flushed ∙ ap (λ a. flushed_by a from.flushed to.seen.state) (sym comes.came.told);
   };
   turn = refl;
   no_fault = refl;

@@ -1,10 +1,11 @@
 //! The program `f2_plain_run`: runs a script on the plain machine, which has no disk, and prints what the definitions say.
 //!
 //! Its one word is `replay`, and the script comes from standard input. It takes every line of a script but `fail`,
-//! `stop` and a `crash` that picks other than as little or as much as may remain. The steps of a checkpoint print no
-//! `block`, since the plain machine has none. It ends with the number of its ending: 0 where the script was run to its
-//! end, 1 for other words, 2 and 3 for a script that is too long or has a faulty line, 4 and 5 where standard input or
-//! output failed, 8 for sizes that no image has, 9 where memory was refused.
+//! `stop` and a `crash` that leaves other than the oldest or the newest content of each block: what the last flush left,
+//! or all that was written. The steps of a checkpoint print no `block`, since the plain machine has none. It ends with
+//! the number of its ending: 0 where the script was run to its end, 1 for other words, 2 and 3 for a script that is too
+//! long or has a faulty line, 4 and 5 where standard input or output failed, 8 for sizes that no image has, 9 where
+//! memory was refused.
 //!
 //! `scripts::run_script` gives what the bytes of a script print, as `f2_play` has it by the status; of all that this allows
 //! it is one text, since what the plain machine chooses stands in `specs/Stages` and `specs/Chosen`: the least free number

@@ -11,7 +11,7 @@ ghost use Rattle.f2_play.specs.Calls.{Draws, Generates, Goes, IsCall, is_fine as
 ghost use Rattle.f2_play.specs.Lines.{live_where_up, tree_shown};
 ghost use Rattle.f2_plain_run.specs.Chosen.{PlaysOn};
 ghost use Rattle.f2_plain_run.specs.Runs.{IsPlayed, IsSaying, Leads, SaysOn, stops};
-ghost use Rattle.f2_plain_run.specs.Stages.{Comes, least, picked};
+ghost use Rattle.f2_plain_run.specs.Stages.{Comes, ends_by_flush as is_end_by_flush, flushed_by, is_flush as is_flush_step, least, oldest, picked};
 
 use crate::stops::Stop;
 use f2_model::{Answer, Begun, Event, MOUNT_SEAT, Mode, Reply, Request, Step, Tick};
@@ -26,7 +26,7 @@ use std::marker::Model;
 /// A call makes fewer events than this: one for each page, two for each direct node, and four more.
 const MOST_EVENTS: u32 = 131_072;
 
-/// As little as may remain: the acknowledged marks alone, and no pending tree.
+/// What a machine is told before the first crash: the acknowledged marks alone, and no pending tree.
 const LEAST: Choices = Choices {
     marks: MarksKept::Fewest,
     pending: false,
@@ -41,6 +41,8 @@ pub struct Player {
     choices: Choices,
     /// Whether a crash since the last mount has settled that.
     is_settled: bool,
+    /// The place up to which the last flush left the marks.
+    flushed: usize,
     alloc: Global,
 }
 
@@ -53,7 +55,7 @@ impl Model for Player {
 
     ghost coded = { Prim.hlevel (codes, coded_machine.the_row.coded) };
 
-    ghost view = { λ p. record { seen = p.machine; choices = p.choices; is_settled = p.is_settled } };
+    ghost view = { λ p. record { seen = p.machine; choices = p.choices; is_settled = p.is_settled; flushed = p.flushed } };
 }
 
 /// Whether the text of a reply begins with `ok`.
@@ -84,15 +86,45 @@ fn fine_of(step: &Step) -> u32
     if is_fine(step) { 1 } else { 0 }
 }
 
+/// Whether the end of a call is a flush: the last one of an fsync, or of a checkpoint.
+fn ends_by_flush(reply: &Reply) -> bool
+    ensures { result ≡ is_end_by_flush reply.now }
+{
+    matches!(reply, Reply::Roll | Reply::Cp(_) | Reply::Synced)
+}
+
+/// Whether a step is a flush: an fsync's first one, or one that ends a call.
+fn is_flush(step: &Step) -> bool
+    ensures { result ≡ is_flush_step step.now }
+{
+    match step {
+        Step::Flushed => true,
+        Step::Replied(reply) => ends_by_flush(reply),
+        _ => false,
+    }
+}
+
+/// What the last flush left: the marks up to a place, and no pending tree.
+fn oldest(place: usize) -> Choices
+    ensures { result ≡ oldest place }
+{
+    Choices {
+        marks: MarksKept::UpTo(place),
+        pending: false,
+        blocks: 0,
+    }
+}
+
 impl Player {
     /// Plays on this machine.
     pub fn new(alloc: Global, machine: Machine) -> Player
-        ensures { result ≡ record { seen = machine; choices = least; is_settled = false } }
+        ensures { result ≡ record { seen = machine; choices = least; is_settled = false; flushed = 0 } }
     {
         Player {
             machine,
             choices: LEAST,
             is_settled: false,
+            flushed: 0,
             alloc,
         }
     }
@@ -179,12 +211,25 @@ impl Player {
         step_text(self.alloc, &last)
     }
 
-    /// One event.
+    /// The place up to which the last flush left the marks, once an event came to an answer.
+    fn flushed_after(&self, answer: &Answer) -> Result<usize, AllocError>
+        ensures { IfOk result (λ place. place ≡ flushed_by answer.now self.now.flushed self.now.seen.state) }
+    {
+        match answer {
+            Answer::Found(_) => Ok(0),
+            Answer::Stepped(step) if is_flush(step) => self.machine.written_place(),
+            _ => Ok(self.flushed),
+        }
+    }
+
+    /// One event. A flush leaves each mark that was written with everything before it.
     fn step(&mut self, event: Event) -> Result<Answer, AllocError>
         requires { IsSeated event }
         ensures { IfOk result (λ answer. Comes event answer self.old self.new) }
     {
-        self.machine.step(event, self.choices)
+        let answer = self.machine.step(event, self.choices)?;
+        self.flushed = self.flushed_after(&answer)?;
+        Ok(answer)
     }
 
     /// Begins a call.
@@ -293,7 +338,7 @@ impl Player {
         if self.is_settled {
             Ok(self.choices)
         } else if pick == 0 {
-            Ok(LEAST)
+            Ok(oldest(self.flushed))
         } else {
             let place = self.machine.written_place()?;
             Ok(Choices {
