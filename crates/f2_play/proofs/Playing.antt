@@ -70,10 +70,10 @@ are-counted limits from to planned (line ∷ lines) [] played all = absurd playe
 are-counted limits from to planned (line ∷ lines) (part ∷ parts) played all =
     calm-counted planned line lines part parts all.0 (are-counted limits part.after to (planned_at planned 0 line) lines parts played.1 all.1)
 
-pub image-counted : (limits : Limits) (to : State) (line : Line) (lines : List Line) (planned : Planned) (part : Part) (parts : List Part)
-    → IsCalm part → PlaysLines limits part.after lines parts to → AllByRecursion IsCalm parts → AreCounted planned 0 (line ∷ lines) (part ∷ parts)
-image-counted limits to line lines planned part parts first played rest =
-    calm-counted planned line lines part parts first (are-counted limits part.after to (planned_at planned 0 line) lines parts played rest)
+pub image-counted : (limits : Limits) (to : State) (one : Line) (lines : List Line) (planned : Planned) (part : Part) (parts : List Part)
+    → IsCalm part → PlaysLines limits part.after lines parts to → AllByRecursion IsCalm parts → AreCounted planned 0 (one ∷ lines) (part ∷ parts)
+image-counted limits to one lines planned part parts first played rest =
+    calm-counted planned one lines part parts first (are-counted limits part.after to (planned_at planned 0 one) lines parts played rest)
 
 -- lines that say nothing stand before a script
 abbrev pub SaysNothing : Line → Type 0

@@ -21,7 +21,7 @@ pub record Scope : Type 0 where
   pub size : ℕ
 
 -- the lines from a `mkfs` line on came to these parts, of which the first is that line's
-pub record PlaysImage (size : ℕ) (extent : Extent) (line : Line) (lines : List Line) (parts : List Part) : Type 0 where
+pub record PlaysImage (size : ℕ) (extent : Extent) (lines : List Line) (parts : List Part) : Type 0 where
   pub sizes : geometry_of extent ≡ Ok extent
   pub first : Part
   pub rest : List Part
@@ -29,15 +29,16 @@ pub record PlaysImage (size : ℕ) (extent : Extent) (line : Line) (lines : List
   pub after : State
   pub made : PlaysMkfs (granted size extent) extent first
   pub played : PlaysLines (granted size extent) first.after lines rest after
+  -- the disk's count of faults before the `mkfs` line
   pub count : ℕ
-  pub counted : AreCounted (nothing_planned count) count (line ∷ lines) parts
+  pub counted : AreCounted (nothing_planned count) count (Mkfs extent.blocks extent.nat ∷ lines) parts
 
 -- The lines of a script came to these parts. Before the `mkfs` line there are none but lines that say nothing, which come to
 -- no part.
 abbrev pub PlaysScript : ℕ → List Line → List Part → Type 0
 PlaysScript size [] parts = parts ≡ []
 PlaysScript size (Skipped ∷ lines) parts = PlaysScript size lines parts
-PlaysScript size (Mkfs blocks nat ∷ lines) parts = PlaysImage size record { blocks = blocks; nat = nat } (Mkfs blocks nat) lines parts
+PlaysScript size (Mkfs blocks nat ∷ lines) parts = PlaysImage size record { blocks = blocks; nat = nat } lines parts
 PlaysScript size (_ ∷ lines) parts = ⊥
 
 -- the `mkfs` line asks for an image that breaks this limit first, by this number
