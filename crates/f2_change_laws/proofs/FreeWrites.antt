@@ -73,7 +73,7 @@ module _ (lists new : Contents) (layout : Layout) (state : State) (at : ℕ) (co
             | inr one ↦ inr one
           ]
 
-  free_packs : KeepsPacks lists layout state → KeepsPacks new layout state
+  pub free_packs : KeepsPacks lists layout state → KeepsPacks new layout state
   free_packs keeps =
       packs_kept lists new more.size layout state layout.log layout.settled layout.next layout.nids layout.owners state.marks state.acknowledged keeps (more.whole keeps.whole may.block)
       record {
@@ -94,7 +94,7 @@ module _ (lists new : Contents) (layout : Layout) (state : State) (at : ℕ) (co
           pending_kept lists new more.size layout.base one rows (λ k is. off_pending one there k (tells is)) (λ k is. off_pending one there k (depends is))
           (off_pending one there one.point.head.log_start (ends one.point.head.log_start (subst (λ (c : List Logged). Follow one.point.head.log_start c one.point.head.log_start) (sym holds.no_log) refl) refl)) holds
 
-  free_log : KeepsPacks lists layout state → KeepsLog lists layout state → KeepsLog new layout state
+  pub free_log : KeepsPacks lists layout state → KeepsLog lists layout state → KeepsLog new layout state
   free_log packs keeps =
       log_kept lists new layout state keeps layout.pending layout.log layout.settled state.pending state.acknowledged refl
       (image_kept lists new more.size layout.base state.base [] (λ k is. off_base k (tells is)) (λ k is. off_base k (depends is)) keeps.base)

@@ -80,9 +80,10 @@ pub record IsSomeSlot (state : State) (place : ℕ) : Type 0 where
 
 -- positions, slots and what is dirty go together
 pub record AreTied (layout : Layout) (state : State) (places : Places) (unwritten : Unwritten) : Type 0 where
-  -- what is dirty in a file is still to be written, and the direct node of a dirty page is dirty
+  -- what is dirty in a file is still to be written, nodes that are dirty are direct ones, and that of a dirty page is dirty
   pub pages : (ino page : ℕ) (row : Row) → map.get state.live ino ≡ Some row → row.kind ≡ Regular → set.contains unwritten.pages (ino, page) ≡ set.contains state.dirty_pages (ino, page)
   pub nodes : (ino offset : ℕ) → set.contains state.dirty_nodes (ino, offset) ≡ true → set.contains unwritten.nodes (ino, offset) ≡ true
+  pub direct : (ino offset : ℕ) → set.contains state.dirty_nodes (ino, offset) ≡ true → IsDirect offset
   pub covered : (ino page offset : ℕ) → set.contains state.dirty_pages (ino, page) ≡ true → direct_of page ≡ Some offset → set.contains state.dirty_nodes (ino, offset) ≡ true
   -- each position is written, or it is the slot of one fsync
   pub count : state.node_writes ≡ length layout.log

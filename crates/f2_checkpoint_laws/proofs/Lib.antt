@@ -1,0 +1,7 @@
+-- Proofs of the laws of a checkpoint's events.
+pub mod Writes
+pub mod Tailed
+pub mod NoLogs
+pub mod Pendings
+pub mod Nobody
+pub mod Finished

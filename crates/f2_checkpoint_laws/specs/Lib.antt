@@ -1,0 +1,4 @@
+-- The events of a checkpoint, each by the changes that it makes.
+pub mod Writing
+pub mod Pending
+pub mod Done

@@ -1,0 +1,16 @@
+//! The events of a checkpoint, each by the changes that it makes: the pages, the nodes and the other blocks that it
+//! writes before its tail, its first flush, the tail, and the last flush.
+//!
+//! No program runs this crate. Each function has an empty body, and its contract is a law; the statements stand in
+//! `specs/`, one file a topic.
+#![tactic(auto)]
+
+mod done;
+mod pending;
+mod writing;
+
+pub use done::last_flushes_keep;
+pub use pending::{tails_make_pending, written_trees_are_pending};
+pub use writing::{
+    checkpoint_blocks_keep, checkpoint_flushes_keep, checkpoint_nodes_stand, checkpoint_pages_stand,
+};
