@@ -20,11 +20,11 @@ use Rattle.f2_script.specs.Steps.{made_spelling}
 use Rattle.f2_script.specs.Words.{Word, Said, AreWords, split_words}
 use Rattle.f2_play.specs.declared.status.Status.{Status}
 use Rattle.f2_play.specs.declared.status.Status.TheVariants as ending
-use Rattle.f2_play.specs.Parts.{Part, text_of}
+use Rattle.f2_play.specs.Parts.{Part, IsCalm, text_of}
 use Rattle.f2_play.specs.Lines.{PlaysLine, PlaysLines, granted, ended}
 use Rattle.f2_play.specs.Faults.{nothing_planned}
 use Rattle.f2_play.specs.Scripts.{PlaysImage, PlaysScript, BreaksLimit, PlaysAll, PlaysFirst}
-use Rattle.f2_play.proofs.Playing.{IsCalm, SaysNothing, all-snoc, PlaysLines-snoc, text_of-snoc, image-counted, geometry_of-ok, script-skips, limit-skips}
+use Rattle.f2_play.proofs.Playing.{SaysNothing, all-snoc, PlaysLines-snoc, text_of-snoc, image-counted, geometry_of-ok, script-skips, limit-skips}
 use Rattle.f2_plain_run.specs.Stages.{Stage, first_stage, finds, settled_by}
 use Rattle.f2_plain_run.specs.Chosen.{IsChosen, AreChosen, IsImageChosen, IsScriptChosen, PlaysOn}
 use Rattle.f2_plain_run.specs.Runs.{IsPlayed, IsSaying, IsMade, PlaysNext, Stands, AreStanding, StopsAt, EndsAs}

@@ -1,20 +1,19 @@
 -- That the lines of a script came to what a plain machine chooses.
 use Rattle.std.specs.Prelude.{◌≡◌, ℕ, List, [], ◌∷◌}
 use Rattle.f2_format.specs.Geometry.{Extent}
-use Rattle.f2_model.specs.Step.{calm}
 use Rattle.f2_plain_calls.specs.Given.{MOST_SIZE}
 use Rattle.f2_script.specs.declared.script.Line.{Line}
 use Rattle.f2_script.specs.declared.script.Line.TheVariants.{Skipped, Mkfs}
 use Rattle.f2_script.specs.declared.script.Grammar.TheVariants.{Plain}
 use Rattle.f2_play.specs.declared.status.Status.{Status}
-use Rattle.f2_play.specs.Parts.{Part}
+use Rattle.f2_play.specs.Parts.{Part, IsCalm}
 use Rattle.f2_play.specs.Lines.{PlaysLine}
 use Rattle.f2_play.specs.Scripts.{Scope, Prints}
 use Rattle.f2_plain_run.specs.Stages.{Stage, MakesAll, first_stage, settled_by}
 
 -- a line came to what its machine chooses, and no disk failed in it
 pub record IsChosen (from : Stage) (line : Line) (part : Part) (to : Stage) : Type 0 where
-  pub no_fault : part.faults ≡ calm
+  pub no_fault : IsCalm part
   pub mid : Stage
   pub made : MakesAll part.events from mid
   pub state : part.after ≡ mid.seen.state
@@ -32,7 +31,7 @@ pub record IsImageChosen (extent : Extent) (lines : List Line) (parts : List Par
   pub first : Part
   pub rest : List Part
   pub whole : parts ≡ first ∷ rest
-  pub no_fault : first.faults ≡ calm
+  pub no_fault : IsCalm first
   pub state : first.after ≡ (first_stage extent).seen.state
   pub last : Stage
   pub chosen : AreChosen (first_stage extent) lines rest last

@@ -9,10 +9,10 @@ use Rattle.f2_layout.specs.declared.geometry.BadGeometry.{BadGeometry}
 use Rattle.f2_layout.specs.declared.geometry.Limit.{Limit}
 use Rattle.f2_model.specs.declared.bounds.Limits.{Limits}
 use Rattle.f2_model.specs.State.{State}
-use Rattle.f2_model.specs.Step.{Faults, calm}
+use Rattle.f2_model.specs.Step.{Faults}
 use Rattle.f2_script.specs.declared.script.Line.{Line}
 use Rattle.f2_script.specs.declared.script.Line.TheVariants as line
-use Rattle.f2_play.specs.Parts.{Part, text_of}
+use Rattle.f2_play.specs.Parts.{Part, IsCalm, text_of}
 use Rattle.f2_play.specs.Lines.{PlaysLine, PlaysLines}
 use Rattle.f2_play.specs.Faults.{Planned, planned_at, AreCounted}
 use Rattle.f2_play.specs.Scripts.{PlaysScript, BreaksLimit}
@@ -42,10 +42,6 @@ text_of-snoc parts part text more first last =
     ap (λ t. t ++ more) first
     ∙ ap (λ t. text_of parts ++ t) (sym last ∙ sym (append-nil part.text))
     ∙ sym (flat_map-append (λ p. p.text) parts (part ∷ []))
-
--- in a part no call of the disk failed
-abbrev pub IsCalm : Part → Type 0
-IsCalm part = part.faults ≡ calm
 
 pub all-snoc : {X : Type 0} (P : X → Type 0) (xs : List X) (x : X) → AllByRecursion P xs → P x → AllByRecursion P (xs ++ x ∷ [])
 all-snoc P [] x all last = (last, tt)

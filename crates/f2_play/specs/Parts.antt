@@ -1,8 +1,8 @@
 -- What lines come to.
-use Rattle.std.specs.Prelude.{ℕ, List, [], ◌∷◌}
+use Rattle.std.specs.Prelude.{◌≡◌, ℕ, List, [], ◌∷◌}
 use Rattle.std.specs.List.{flat_map}
 use Rattle.f2_model.specs.State.{State}
-use Rattle.f2_model.specs.Step.{Faults}
+use Rattle.f2_model.specs.Step.{Faults, calm}
 use Rattle.f2_model.specs.Run.{Happening}
 
 -- what one line came to: what it printed, the events that it made, the disk's count of faults before and after it, and
@@ -12,6 +12,10 @@ pub record Part : Type 0 where
   pub events : List Happening
   pub faults : Faults
   pub after : State
+
+-- no call of the disk failed in a line, nor before it
+abbrev pub IsCalm : Part → Type 0
+IsCalm part = part.faults ≡ calm
 
 -- the texts of parts in order, and their events
 abbrev pub text_of : List Part → List ℕ

@@ -11,10 +11,11 @@ use Rattle.f2_model.specs.State.{State}
 use Rattle.f2_flat.specs.Flat.{limits_of}
 use Rattle.f2_core.specs.Seen.{Seen}
 use Rattle.f2_script.specs.declared.script.Line.{Line}
+use Rattle.f2_play.specs.Parts.{IsCalm}
 use Rattle.f2_play.specs.Lines.{PlaysLines}
 use Rattle.f2_play.proofs.Playing.{all-snoc, PlaysLines-snoc, text_of-snoc}
 use Rattle.f2_top.specs.Left.{IsSafeWhereTold}
-use Rattle.f2_top.specs.Runs.{IsCalm, IsAt, PlaysAs, PlaysOn, PlaysTo, PlaysFrom, SomePrint, SomeCut}
+use Rattle.f2_top.specs.Runs.{IsAt, PlaysAs, PlaysOn, PlaysTo, PlaysFrom, SomePrint, SomeCut}
 use Rattle.f2_top.specs.Streams.{IsCutAfter, PutsSome}
 
 -- no line yet

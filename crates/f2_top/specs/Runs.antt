@@ -21,7 +21,7 @@ use Rattle.f2_script.specs.declared.script.Line.TheVariants.{Mkfs, Call, Crash, 
 use Rattle.f2_script.specs.declared.script.Line.TheVariants as kind
 use Rattle.f2_play.specs.declared.status.Status.{Status}
 use Rattle.f2_play.specs.declared.status.Status.TheVariants.{Done, Usage, TooLong, Script, SourceFault, SinkFault, Geometry, Memory}
-use Rattle.f2_play.specs.Parts.{Part, text_of}
+use Rattle.f2_play.specs.Parts.{Part, IsCalm, text_of}
 use Rattle.f2_play.specs.Calls.{Mounts}
 use Rattle.f2_play.specs.Lines.{PlaysLine, PlaysLines, new_image}
 use Rattle.f2_play.specs.Scripts.{BreaksLimit, PlaysAll, Prints}
@@ -43,10 +43,6 @@ abbrev pub IsPlayableScript : List Line → Type 0
 IsPlayableScript [] = Unit {0}
 IsPlayableScript (Mkfs blocks nat ∷ lines) = AllByRecursion IsPlayable lines
 IsPlayableScript (_ ∷ lines) = ⊥
-
--- in a part no call of the disk failed
-abbrev pub IsCalm : Part → Type 0
-IsCalm part = part.faults ≡ calm
 
 -- a line printed a text, and led from a state to another
 pub record PlaysAs (limits : Limits) (from : State) (line : Line) (text : List ℕ) (to : State) : Type 0 where
