@@ -36,7 +36,7 @@ pub(crate) fn change_files(
     }
 }
 
-/// Whether a call was refused for want of memory.
+/// Whether a call was refused for want of memory. The history keeps nothing of such a call.
 pub(crate) fn is_memory(refusal: &Reply) -> bool
     ensures { IsTrue result ↔ (refusal.now ≡ Memory) }
 {
