@@ -1,0 +1,8 @@
+//! The last flush of an fsync.
+ghost use Rattle.f2_event_laws.specs.Acks.{AcknowledgementsKeep};
+
+/// The last flush of an fsync below whose mark no position is open acknowledges every mark up to its own: a crash leaves
+/// each of them.
+pub fn acknowledgements_keep()
+    ensures { AcknowledgementsKeep }
+{}

@@ -1,0 +1,13 @@
+//! The pages of a file: written, and flushed.
+ghost use Rattle.f2_event_laws.specs.Pages.{FlushedPagesKeep, WrittenPagesKeep};
+
+/// The first flush of an fsync keeps what a running volume keeps; from then on its file's pages are flushed.
+pub fn flushed_pages_keep()
+    ensures { FlushedPagesKeep }
+{}
+
+/// The write of a dirty page to a free address keeps it, whoever made it; the node that tells the page's address is to be
+/// written from then on.
+pub fn written_pages_keep()
+    ensures { WrittenPagesKeep }
+{}
