@@ -1,0 +1,5 @@
+use Rattle.f2_model.proofs.MapViews.{seen-remove}
+use Rattle.f2_files.proofs.directories.Directories.remove.Goals as goal
+
+pub returns : goal.returns
+returns c = seen-remove _ _ c.self.view_is _ c.args.directory c.remove.ensures.updates.0

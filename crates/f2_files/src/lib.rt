@@ -1,0 +1,35 @@
+//! What a running volume knows of its files, without any disk.
+//!
+//! [`Files`] has the rows of the tree that calls see, without the contents of their pages: kinds, sizes, names, where
+//! pages stand and the nids of nodes ([`Shape`]). Beside them are the names of each directory, which pages and direct
+//! nodes are dirty, which files moved or shrank since the base, and the calls in flight.
+//!
+//! What the layer above uses: contracts see [`Files`] as what is known (`Known` of `specs/Known`), and speak of every
+//! good tree whose rows have those shapes (`IsShapeOf` of `specs/Shape`), or of every state of the machine of which
+//! that is known (`IsKnownOf`). [`Files::walk`], [`Files::refusal`] and [`Files::names`] come to what the definitions of
+//! calls say of the tree; a call that isn't refused (`IsAllowed`) leaves known what the machine's state becomes
+//! (`Follows`). No call needs the contents of a page, and one that is refused memory leaves all as it was.
+//!
+//! `specs/Led` says how names lead through directories alone, and when directories know them rightly, `specs/Refused`
+//! how they refuse requests.
+#![tactic(auto)]
+
+mod addresses;
+mod bindings;
+mod creates;
+mod directories;
+mod dirt;
+mod files;
+mod flights;
+mod pairs;
+mod places;
+mod refusals;
+mod removes;
+mod renames;
+mod shapes;
+mod touches;
+mod writes;
+
+pub use addresses::Addresses;
+pub use files::Files;
+pub use shapes::Shape;
