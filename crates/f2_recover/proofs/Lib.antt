@@ -1,0 +1,19 @@
+-- Lemmas for recovery.
+pub mod Ups
+pub mod Ways
+pub mod FileNodes
+pub mod FilePages
+pub mod Telling
+pub mod Sets
+pub mod Claims
+pub mod PageLists
+pub mod Parts
+pub mod Offsets
+pub mod Seen
+pub mod Inodes
+pub mod AddressTables
+pub mod FileEnds
+pub mod DentFaults
+pub mod JournalNids
+pub mod NextFiles
+pub mod Counted

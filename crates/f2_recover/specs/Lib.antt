@@ -1,0 +1,10 @@
+-- What recovery reads of an image.
+pub mod Faults
+pub mod Told
+pub mod Reading
+pub mod Taking
+pub mod Seeing
+pub mod Files
+pub mod Tables
+pub mod Names
+pub mod Standing

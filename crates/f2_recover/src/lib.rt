@@ -1,0 +1,34 @@
+//! The base of any image, read from its blocks: the parts from which recovery is built.
+//!
+//! A mount reads the node address table whole ([`table`]), with the nids of its journal ([`journals`]), and then file by
+//! file what the root reaches. [`files`] reads one file: its inode, its nodes in rising offsets ([`nodes`], [`below`]) and the
+//! addresses of its pages ([`pages`]); [`zones`] has the addresses and the nids that were taken so far. [`dentries`] reads
+//! the names of a block of a directory, [`sizes`] looks at the end of a regular file, [`standing`] at where and as what a
+//! file stands, and [`closing`] at what was reached in the end.
+//!
+//! Each function says two things. Where it succeeds, what it gives is what the image has: all nodes and all pages of the
+//! file, each right and at an address of its own. Where it tells a condition, that condition stands in the image, with the
+//! number that is told. So a sound image is never refused. Each says it of any image that the disk tells, with any
+//! checkpoint whose table was read; nothing is written, and `Read` comes only where a read of the disk failed.
+//!
+//! What is still to come: the walk from the root along the names, which makes the base of these parts.
+//!
+//! The definitions stand in `specs/`: what a table tells (`Reading`, `Tables`), which addresses were taken (`Taking`), how far
+//! a file was read (`Seeing`, `Files`), and which condition a fault is (`Faults`).
+#![tactic(auto)]
+
+mod below;
+mod blocks;
+mod closing;
+mod dentries;
+mod faults;
+mod files;
+mod journals;
+mod nodes;
+mod pages;
+mod sizes;
+mod standing;
+mod table;
+mod zones;
+
+pub use faults::{BadImage, MountFault};
