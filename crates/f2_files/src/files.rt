@@ -17,7 +17,7 @@ use crate::refusals::refused_by;
 use crate::shapes::{Shape, Shapes};
 use f2_blocks::Nids;
 use f2_model::{Kind, Limits, Name, Names, ROOT, Reply, Request};
-use f2_plain_state::{Flights, Inos};
+use f2_reference_state::{Flights, Inos};
 use std::alloc::{AllocError, Global};
 use std::marker::Model;
 

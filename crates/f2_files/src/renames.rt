@@ -13,7 +13,7 @@ use crate::files::Files;
 use crate::refusals::led_parent;
 use crate::shapes::Shapes;
 use f2_model::{Kind, Name, Path};
-use f2_plain_state::Inos;
+use f2_reference_state::Inos;
 use std::alloc::{AllocError, Global};
 
 /// An equal copy of the last name of a path, empty for the root.

@@ -3,14 +3,14 @@ ghost use Rattle.std.specs.Prelude.{◌≡◌, ◌≤◌, All, Some, None, OnOk,
 ghost use Rattle.std.specs.FinMap as map;
 ghost use Rattle.std.specs.Option.{option_copied};
 ghost use Rattle.f2_model.specs.Content.{end_of, raised_size};
-ghost use Rattle.f2_plain_calls.specs.Given.{MOST_SIZE};
+ghost use Rattle.f2_reference_calls.specs.Given.{MOST_SIZE};
 ghost use Rattle.f2_files.specs.Shape.{with_all_pages};
 ghost use Rattle.f2_files.specs.declared.shapes.Shape.{Shape};
 
 use crate::addresses::Addresses;
 use f2_blocks::Nids;
 use f2_model::{Kind, Name, Piece};
-use f2_plain_calls::raised_size;
+use f2_reference_calls::raised_size;
 use std::alloc::{AllocError, Global};
 use std::collections::BTreeMap;
 use std::marker::Model;

@@ -3,10 +3,10 @@ ghost use Rattle.std.specs.Prelude.{◌≡◌, ◌≤◌, ◌++◌, All, IfOk, O
 ghost use Rattle.std.specs.List.{flat_map};
 ghost use Rattle.f2_model.specs.Content.{end_of, pages_of_piece};
 ghost use Rattle.f2_model.specs.State as machine;
-ghost use Rattle.f2_plain_calls.specs.Given.{MOST_SIZE};
+ghost use Rattle.f2_reference_calls.specs.Given.{MOST_SIZE};
 
 use f2_model::Piece;
-use f2_plain_calls::pages_of_piece;
+use f2_reference_calls::pages_of_piece;
 use f2_shape::direct_of;
 use std::alloc::{AllocError, Global};
 

@@ -3,7 +3,7 @@ ghost use Rattle.std.specs.Prelude.{◌≡◌, ◌≤◌, All, OnOk, OnErr, IfOk
 ghost use Rattle.f2_model.specs.Content.{end_of};
 ghost use Rattle.f2_model.specs.State.{with_pairs, without_pairs};
 ghost use Rattle.f2_model.specs.declared.requests.Request.TheVariants.{Write};
-ghost use Rattle.f2_plain_calls.specs.Given.{MOST_SIZE};
+ghost use Rattle.f2_reference_calls.specs.Given.{MOST_SIZE};
 ghost use Rattle.f2_files.specs.Known.{IsAllowed, Follows};
 
 use crate::files::Files;

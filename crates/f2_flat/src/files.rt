@@ -19,7 +19,7 @@ use f2_dir::Dir;
 use f2_layout::Geometry;
 use f2_model::{Kind, Name, Path, Piece, Reply, Tree};
 use f2_pieces::fresh;
-use f2_plain_calls::ROOT;
+use f2_reference_calls::ROOT;
 use std::alloc::{AllocError, Global};
 use std::marker::Model;
 

@@ -7,7 +7,7 @@ ghost use Rattle.f2_flat.specs.Steps.{IsGranted, told_beyond};
 
 use crate::counts::Counts;
 use f2_model::{Reply, Space, Tree};
-use f2_plain_calls::data_of_tree;
+use f2_reference_calls::data_of_tree;
 use std::alloc::Global;
 
 /// The name slots that every dentry block but the last has taken at least: a block has 214, and a name takes at most 32.

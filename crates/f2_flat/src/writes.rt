@@ -14,7 +14,7 @@ use crate::walks::walk;
 use f2_dir::Dir;
 use f2_model::{Kind, Name, Pages, Path, Piece, Reply, Row, Tree};
 use f2_pieces::put;
-use f2_plain_calls::{ROOT, raised_size};
+use f2_reference_calls::{ROOT, raised_size};
 use std::alloc::{AllocError, Global};
 
 /// Whether a piece ends past the longest file.

@@ -1,9 +1,9 @@
 //! Each call of the definitions run once. What calls come to is shown by the scripts that checks/reference runs.
 ghost use Rattle.std.specs.Prelude.{IfOk};
-ghost use Rattle.f2_plain_calls.specs.Given.{IsFitting};
+ghost use Rattle.f2_reference_calls.specs.Given.{IsFitting};
 
 use f2_model::{Kind, Limits, Name, Pages, Path, Reply, Request, Row, Tree};
-use f2_plain_calls::{
+use f2_reference_calls::{
     ROOT, answer, copy_row, copy_tree, data_of_row, data_of_tree, direct_of, has_direct,
     nodes_of_row, nodes_of_tree, outcome, refusal, removed, space_refusal, touched, walk_parent,
 };

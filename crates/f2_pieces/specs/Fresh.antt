@@ -4,7 +4,7 @@ use Rattle.std.specs.List.{filter}
 use Rattle.std.specs.FinMap as map
 use Rattle.f2_model.specs.Content.{PageMap, end_of, put_pieces}
 use Rattle.f2_model.specs.declared.requests.Piece.{Piece}
-use Rattle.f2_plain_calls.specs.Given.{MOST_SIZE}
+use Rattle.f2_reference_calls.specs.Given.{MOST_SIZE}
 
 -- no piece ends past the last byte that a file's pages have room for
 abbrev pub EndWithin : List Piece → Type 0

@@ -10,7 +10,7 @@ use Rattle.f2_model.specs.declared.rows.Row.{Row}
 use Rattle.f2_laws.proofs.Missing.{tied-true, tied-same}
 use Rattle.f2_laws.proofs.Names.{stands_true}
 use Rattle.f2_laws.proofs.Walks.{stands}
-use Rattle.f2_plain_calls.specs.Given.{IsKeyed}
+use Rattle.f2_reference_calls.specs.Given.{IsKeyed}
 use Rattle.f2_plain_check.specs.Parts.{AreApart}
 use Rattle.f2_plain_check.proofs.Values.{values_in, sorted_behind, found_first, found_behind, other_key}
 

@@ -4,7 +4,7 @@ use Rattle.std.specs.Prelude.{All}
 use Rattle.std.proofs.lemmas.List.Elements.{All-nil, All-cons, All-head, All-tail}
 use Rattle.std.proofs.lemmas.List.{at_drop_all}
 use Rattle.f2_model.specs.declared.rows.Row.{Row}
-use Rattle.f2_plain_calls.specs.Given.{rows_at}
+use Rattle.f2_reference_calls.specs.Given.{rows_at}
 
 -- the rows that are left, the first of them before the others
 pub next_row : (rows : List (Bor Row)) (i : ℕ) (row : Bor Row) → i < length rows → row ≡ get_or rows i row → rows_at (drop i rows) ≡ row.now ∷ rows_at (drop (i + 1) rows)

@@ -9,7 +9,7 @@ use Rattle.f2_model.specs.Tree.{Rows, ROOT, HasGoodPages, IsAtDepth, IsGoodTree}
 use Rattle.f2_model.specs.Count.{dentry_blocks}
 use Rattle.f2_model.specs.declared.rows.Row.{Row}
 use Rattle.f2_laid.specs.Laid.{IsStorable}
-use Rattle.f2_plain_calls.specs.Given.{IsKeyed}
+use Rattle.f2_reference_calls.specs.Given.{IsKeyed}
 use Rattle.f2_plain_check.specs.Parts.{EachIsSo, IsGoodPage, HasGoodSize, IsGoodRow, AreApart, HasRoot, HasRoom, HasRoomForAll}
 use Rattle.f2_plain_check.proofs.Values.{each_value}
 

@@ -2,7 +2,7 @@
 ghost use Rattle.std.specs.Prelude.{◌↔◌, IsTrue, IfOk, All};
 ghost use Rattle.f2_format.specs.Inode.{SIZE_LIMIT};
 ghost use Rattle.f2_model.specs.Tree.{IsGoodTree};
-ghost use Rattle.f2_plain_calls.specs.Given.{rows_at};
+ghost use Rattle.f2_reference_calls.specs.Given.{rows_at};
 ghost use Rattle.f2_plain_check.specs.Parts.{IsGoodRow};
 
 use crate::names::are_apart;

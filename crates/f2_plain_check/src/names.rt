@@ -1,11 +1,11 @@
 //! The names of rows in their directories.
 ghost use Rattle.std.specs.Prelude.{◌↔◌, IsTrue, IfOk};
-ghost use Rattle.f2_plain_calls.specs.Given.{IsKeyed};
+ghost use Rattle.f2_reference_calls.specs.Given.{IsKeyed};
 ghost use Rattle.f2_plain_check.specs.Parts.{AreApart};
 
 use crate::rows::rows_of;
 use f2_model::Tree;
-use f2_plain_calls::ROOT;
+use f2_reference_calls::ROOT;
 use std::alloc::{AllocError, Global};
 use std::collections::BTreeSet;
 

@@ -1,13 +1,13 @@
 //! Whether an image has room for a tree.
 ghost use Rattle.std.specs.Prelude.{◌↔◌, IsTrue, IfOk, All};
-ghost use Rattle.f2_plain_calls.specs.Given.{rows_at};
+ghost use Rattle.f2_reference_calls.specs.Given.{rows_at};
 ghost use Rattle.f2_plain_check.specs.Parts.{HasRoom, HasSpace, HasRoomForAll, IsShortDirectory};
 
 use crate::pages::has_short_file;
 use crate::rows::{is_numbered, rows_of};
 use f2_layout::Geometry;
 use f2_model::{Kind, Row, Tree};
-use f2_plain_calls::{data_of_row, data_of_tree, nodes_of_tree};
+use f2_reference_calls::{data_of_row, data_of_tree, nodes_of_tree};
 use f2_shape::INODE_PAGES;
 use std::alloc::{AllocError, Global};
 

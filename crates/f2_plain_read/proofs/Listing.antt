@@ -33,7 +33,7 @@ use Rattle.f2_model.specs.Tree.{Rows, ROOT, is_in, names_in, names_under}
 use Rattle.f2_model.specs.declared.rows.Row.{Row}
 use Rattle.f2_model.specs.declared.rows.Kind.{Kind}
 use Rattle.f2_model.specs.declared.rows.Kind.TheVariants.{Regular, Directory}
-use Rattle.f2_plain_calls.proofs.Listed.{names_under-row}
+use Rattle.f2_reference_calls.proofs.Listed.{names_under-row}
 use Rattle.f2_plain_read.specs.Files.{ArePagesAt, AreBlocks}
 use Rattle.f2_plain_read.proofs.Standing.{one_some}
 

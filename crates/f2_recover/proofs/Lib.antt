@@ -17,3 +17,4 @@ pub mod DentFaults
 pub mod JournalNids
 pub mod NextFiles
 pub mod Counted
+pub mod Slots

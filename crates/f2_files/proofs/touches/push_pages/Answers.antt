@@ -1,6 +1,6 @@
 use Rattle.std.proofs.Common.{◌+◌, ◌-◌, ◌++◌, ◌∷◌, [], ap, sym, ◌∙◌, append_assoc}
 use Rattle.std.specs.List.{range_with_len}
-use Rattle.f2_plain_calls.proofs.Ranges.{range_step}
+use Rattle.f2_reference_calls.proofs.Ranges.{range_step}
 use Rattle.f2_files.proofs.touches.push_pages.Goals as goal
 
 pub loop-page-preserved : goal.loop-page-preserved

@@ -1,6 +1,6 @@
 use Rattle.std.proofs.Common.{refl, sym, subst, arith}
-use Rattle.f2_plain_calls.specs.Given.{IsFitting}
-use Rattle.f2_plain_calls.proofs.Fitting.{fitting_none, fitting_put}
+use Rattle.f2_reference_calls.specs.Given.{IsFitting}
+use Rattle.f2_reference_calls.proofs.Fitting.{fitting_none, fitting_put}
 use Rattle.f2_machine_tests.proofs.plain_calls.root_alone.Goals as goal
 
 pub returns : goal.returns

@@ -2,7 +2,7 @@ use Rattle.std.proofs.Common.{◌≡◌, ◌↔◌, IsTrue, true, false, List, s
 use Rattle.std.specs.Prelude.{All}
 use Rattle.std.specs.FinMap as map
 use Rattle.f2_model.specs.declared.rows.Row.{Row}
-use Rattle.f2_plain_calls.specs.Given.{rows_at}
+use Rattle.f2_reference_calls.specs.Given.{rows_at}
 use Rattle.f2_plain_check.specs.Parts.{IsGoodRow}
 use Rattle.f2_plain_check.proofs.Together.{good_tree, rows_of_good}
 use Rattle.f2_plain_check.proofs.good.is_good.Goals as goal

@@ -3,7 +3,7 @@ use Rattle.std.proofs.lemmas.List.{at_drop_all}
 use Rattle.std.specs.BTreeSet.{contains}
 use Rattle.std.specs.FinMap as map
 use Rattle.f2_model.specs.declared.rows.Row.{Row}
-use Rattle.f2_plain_calls.specs.Given.{rows_at}
+use Rattle.f2_reference_calls.specs.Given.{rows_at}
 use Rattle.f2_plain_check.proofs.Apart.{AreNew, apart_if_new}
 use Rattle.f2_plain_check.proofs.Left.{next_row}
 use Rattle.f2_plain_check.proofs.Seen.{AreLeft, named_cmp, none_seen, root_passed, name_passed, name_taken, turned}

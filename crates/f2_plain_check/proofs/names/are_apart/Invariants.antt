@@ -1,5 +1,5 @@
 use Rattle.std.proofs.Common.{drop}
-use Rattle.f2_plain_calls.specs.Given.{rows_at}
+use Rattle.f2_reference_calls.specs.Given.{rows_at}
 use Rattle.f2_plain_check.proofs.Seen.{AreLeft}
 use Rattle.f2_plain_check.proofs.names.are_apart.Given as goal
 

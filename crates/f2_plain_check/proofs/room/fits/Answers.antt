@@ -2,7 +2,7 @@ use Rattle.std.proofs.Common.{◌≡◌, ◌↔◌, IsTrue, true, false, List, s
 use Rattle.std.specs.Prelude.{All}
 use Rattle.std.specs.FinMap as map
 use Rattle.f2_model.specs.declared.rows.Row.{Row}
-use Rattle.f2_plain_calls.specs.Given.{rows_at}
+use Rattle.f2_reference_calls.specs.Given.{rows_at}
 use Rattle.f2_plain_check.specs.Parts.{HasRoom}
 use Rattle.f2_plain_check.proofs.room.fits.Goals as goal
 use Rattle.f2_plain_check.proofs.room.fits.Goals.{then-branch+in_ok-has_space, else-branch}

@@ -1,5 +1,5 @@
 use Rattle.std.proofs.Common.{◌≡◌, true, false, refl, sym, ◌∙◌}
-use Rattle.f2_plain_calls.specs.Given.{rows_at}
+use Rattle.f2_reference_calls.specs.Given.{rows_at}
 use Rattle.f2_plain_check.specs.Parts.{HasRoom}
 use Rattle.f2_plain_check.proofs.Left.{so_far, is_so, all_so}
 use Rattle.f2_plain_check.proofs.room.have_room.Goals as goal

@@ -1,4 +1,4 @@
-use Rattle.f2_plain_calls.specs.Given.{rows_at}
+use Rattle.f2_reference_calls.specs.Given.{rows_at}
 use Rattle.f2_plain_check.specs.Parts.{HasRoom}
 use Rattle.f2_plain_check.proofs.Left.{Decide}
 use Rattle.f2_plain_check.proofs.room.have_room.Given as goal

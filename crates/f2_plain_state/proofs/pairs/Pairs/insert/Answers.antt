@@ -1,5 +1,0 @@
-use Rattle.f2_plain_state.proofs.SetViews.{pair_cmp_total, pair_cmp-IsAntisymmetric, keys-insert}
-use Rattle.f2_plain_state.proofs.pairs.Pairs.insert.Goals as goal
-
-pub returns-clause-ok : goal.returns-clause-ok
-returns-clause-ok c = keys-insert pair_cmp_total pair_cmp-IsAntisymmetric _ _ c.self.view_is _ (c.args.ino, c.args.number) c.in_ok-insert.ensures.updates.0
