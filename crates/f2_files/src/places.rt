@@ -1,5 +1,5 @@
 //! Where the pages of files stand, and the nids of their nodes.
-ghost use Rattle.std.specs.Prelude.{◌≡◌, Some, IsSome, OnOk, OnErr};
+ghost use Rattle.std.specs.Prelude.{◌≡◌, Some, None, IsSome, OnOk, OnErr};
 ghost use Rattle.std.specs.FinMap as map;
 ghost use Rattle.std.specs.Option.{option_copied};
 ghost use Rattle.f2_model.specs.Tree.{Rows};
@@ -28,6 +28,7 @@ impl Files {
     /// Sets the address of a page. Only a page that is new takes memory; where it is refused nothing changes.
     pub fn set_address(&mut self, ino: u32, page: u32, at: u32) -> Result<(), AllocError>
         ensures ok { OnOk result ((row : Shape) → map.get self.old.shapes ino ≡ Some row → self.new ≡ record self.old { shapes = map.insert self.old.shapes ino (record row { pages = map.insert row.pages page at }) }) }
+        ensures missing { map.get self.old.shapes ino ≡ None → self.new ≡ self.old }
         ensures keeps { OnOk result (IsSome (address_in page (map.get self.old.shapes ino)) → (tree : Rows) → IsShapeOf self.old.shapes tree → IsShapeOf self.new.shapes tree) }
         ensures err { OnErr result (self.new ≡ self.old) }
     {
@@ -44,6 +45,7 @@ impl Files {
     /// Gives a node its nid. Only a node that has none takes memory; where it is refused nothing changes.
     pub fn set_nid(&mut self, ino: u32, offset: u32, nid: u32) -> Result<(), AllocError>
         ensures ok { OnOk result ((row : Shape) → map.get self.old.shapes ino ≡ Some row → self.new ≡ record self.old { shapes = map.insert self.old.shapes ino (record row { nids = map.insert row.nids offset nid }) }) }
+        ensures missing { map.get self.old.shapes ino ≡ None → self.new ≡ self.old }
         ensures keeps { OnOk result ((tree : Rows) → IsShapeOf self.old.shapes tree → IsShapeOf self.new.shapes tree) }
         ensures err { OnErr result (self.new ≡ self.old) }
     {
