@@ -15,7 +15,7 @@ use Rattle.f2_image.specs.Faults as faults
 use Rattle.f2_recover.specs.Reading.{IsNodeRead}
 use Rattle.f2_recover.specs.Taking.{Taken, TakenNode, TakenPage, TakenNid, IsBefore, IsRightNode, IsRightPage, AreTaken}
 use Rattle.f2_recover.proofs.Sets.{Numbers, not_both, not_true, here, stays, one_of}
-use Rattle.f2_recover.proofs.FileNodes.{one_nid}
+use Rattle.f2_recover.proofs.NodesOfFiles.{one_nid}
 
 -- an address in a zone is one
 pub in_node_some : (extent : Extent) (at : ℕ) → is_in_node extent at ≡ true → at ≢ 0

@@ -14,7 +14,7 @@ use Rattle.f2_image.specs.Faults.{IsSomeNode, IsBaseBlock, IsTooFull}
 use Rattle.f2_image.specs.Faults as faults
 use Rattle.f2_recover.specs.Taking.{Taken, AreTaken}
 use Rattle.f2_recover.proofs.Sets.{Numbers, not_both}
-use Rattle.f2_recover.proofs.FileNodes.{one_nid}
+use Rattle.f2_recover.proofs.NodesOfFiles.{one_nid}
 
 itself : (k : ℕ) → eq_by_cmp nat_cmp k k ≡ true
 itself k = unsigned_tied k k ∙ eq-eqb k k refl

@@ -13,7 +13,7 @@ use Rattle.f2_image.specs.Reached.{IsNode, inode, named, nids_of_node, nid_in, o
 use Rattle.f2_image.proofs.OneBase.{same_some}
 use Rattle.f2_recover.proofs.Ups.{Up, one, second_top, double_top, first, second, double, low, inode_names, inode_second, inode_double, first_names, second_names, double_names, low_names}
 use Rattle.f2_recover.proofs.Ways.{way_of, one as right_below, first as below_first, second as below_second, double as below_double}
-use Rattle.f2_recover.proofs.FileNodes.{named_by, inode_nid}
+use Rattle.f2_recover.proofs.NodesOfFiles.{named_by, inode_nid}
 
 not_none : {X : Type 0} (x : X) → None ≡ Some x → ⊥
 not_none x e = cc

@@ -1,7 +1,7 @@
 -- Lemmas for recovery.
 pub mod Ups
 pub mod Ways
-pub mod FileNodes
+pub mod NodesOfFiles
 pub mod FilePages
 pub mod Telling
 pub mod Sets

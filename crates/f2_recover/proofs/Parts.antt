@@ -12,7 +12,7 @@ use Rattle.f2_image.specs.Reached.{IsNode, IsBasePage}
 use Rattle.f2_image.proofs.OneBase.{same_some}
 use Rattle.f2_recover.specs.Seeing.{IsPart, IsList, IsNodeBelow, IsPageBelow}
 use Rattle.f2_recover.specs.declared.nodes.FileNodes.{FileNodes}
-use Rattle.f2_recover.proofs.FileNodes.{one_nid}
+use Rattle.f2_recover.proofs.NodesOfFiles.{one_nid}
 use Rattle.f2_laws.proofs.Maps.{get_put, get_put-other}
 use Rattle.f2_recover.proofs.PageLists.{list_later, list_more}
 

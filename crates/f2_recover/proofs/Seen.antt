@@ -16,7 +16,7 @@ use Rattle.f2_recover.specs.declared.nodes.FileNodes.{FileNodes}
 use Rattle.f2_recover.proofs.Sets.{Numbers}
 use Rattle.f2_recover.proofs.Ups.{up, double, double_names}
 use Rattle.f2_recover.proofs.Ways.{direct_in_double}
-use Rattle.f2_recover.proofs.FileNodes.{none_named, none_below}
+use Rattle.f2_recover.proofs.NodesOfFiles.{none_named, none_below}
 use Rattle.f2_recover.proofs.Claims.{taken_past}
 use Rattle.f2_recover.proofs.Parts.{part_past}
 use Rattle.f2_recover.proofs.FilePages.{has_direct, direct_address, low_address}

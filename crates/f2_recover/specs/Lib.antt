@@ -8,3 +8,5 @@ pub mod Files
 pub mod Tables
 pub mod Names
 pub mod Standing
+pub mod Dents
+pub mod Walking

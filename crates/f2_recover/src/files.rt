@@ -4,7 +4,7 @@ ghost use Rattle.std.specs.Ordering.{nat_cmp};
 ghost use Rattle.std.specs.FinMap as map;
 ghost use Rattle.std.specs.FinSet as set;
 ghost use Rattle.f2_disk.specs.Meter.{HasFailed};
-ghost use Rattle.f2_format.specs.Geometry.{Extent};
+ghost use Rattle.f2_format.specs.Geometry.{Extent, nid_limit};
 ghost use Rattle.f2_format.specs.Inode.{inode_of};
 ghost use Rattle.f2_format.specs.Offsets.{inode_pages, page_limit};
 ghost use Rattle.f2_image.specs.Images.{Image};
@@ -36,7 +36,7 @@ const INODE_PAGES: u32 = 923;
 
 /// What is read of a file of the base.
 #[derive(Drop)]
-pub(crate) struct File {
+pub struct File {
     pub kind: Kind,
     /// Its length in bytes, as its inode tells it.
     pub size: u64,
@@ -159,6 +159,7 @@ pub(crate) fn read_file<D: Disk>(
     requires device { zones.old.extent.blocks ≤ (D.meter disk.old).blocks }
     ensures file { IfOk result (λ file. (image : Image) (point : Checkpoint) (inos : set.FinSet nat_cmp) → IsRead (D.contents disk.old) zones.old.extent table.now image point → IsReached image point ino
         → AreTaken image point inos ino 0 0 zones.old → IsFileRead image point inos ino zones.new file) }
+    ensures within { OnOk result (ino < nid_limit zones.old.extent) }
     ensures extent { OnOk result (zones.new.extent ≡ zones.old.extent) }
     ensures fault { IfErr result (λ fault. (image : Image) (point : Checkpoint) (inos : set.FinSet nat_cmp) → IsRead (D.contents disk.old) zones.old.extent table.now image point → IsReached image point ino
         → AreTaken image point inos ino 0 0 zones.old → IsRightFault image point fault) }

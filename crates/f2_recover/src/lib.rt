@@ -17,6 +17,7 @@
 //! a file was read (`Seeing`, `Files`), and which condition a fault is (`Faults`).
 #![tactic(auto)]
 
+mod base;
 mod below;
 mod blocks;
 mod closing;
@@ -24,11 +25,21 @@ mod dentries;
 mod faults;
 mod files;
 mod journals;
+mod named;
+mod names;
 mod nodes;
 mod pages;
+mod rows;
 mod sizes;
 mod standing;
 mod table;
+mod walk;
 mod zones;
 
+pub use base::read_base;
 pub use faults::{BadImage, MountFault};
+pub use files::File;
+pub use nodes::{FileNodes, PageAt};
+pub use rows::{BaseNames, BaseRow, BaseRows};
+pub use walk::Walk;
+pub use zones::Zones;

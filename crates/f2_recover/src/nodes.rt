@@ -1,11 +1,11 @@
 //! The nodes of files.
-ghost use Rattle.std.specs.Prelude.{◌≡◌, ◌≢◌, ◌⊎◌, ℕ, ◌+◌, ◌≤◌, true, false, Err, Some, IfOk, IfErr, OnOk, Option};
+ghost use Rattle.std.specs.Prelude.{◌≡◌, ◌≢◌, ◌⊎◌, ℕ, ◌+◌, ◌≤◌, ◌<◌, true, false, Err, Some, IfOk, IfErr, OnOk, Option};
 ghost use Rattle.std.specs.Ordering.{nat_cmp};
 ghost use Rattle.std.specs.FinSet as set;
 ghost use Rattle.f2_disk.specs.Contents.{Contents};
 ghost use Rattle.f2_disk.specs.Meter.{HasFailed};
 ghost use Rattle.f2_format.specs.Footer.{footer_nid, footer_ino, footer_offset};
-ghost use Rattle.f2_format.specs.Geometry.{Extent, is_in_node};
+ghost use Rattle.f2_format.specs.Geometry.{Extent, is_in_node, nid_limit};
 ghost use Rattle.f2_model.specs.Tree.{ROOT as root};
 ghost use Rattle.f2_image.specs.Images.{Image};
 ghost use Rattle.f2_image.specs.Packs.{Checkpoint};
@@ -44,14 +44,14 @@ pub(crate) struct NodeName {
 
 /// A page of a file, and its address.
 #[derive(Clone, Copy, Debug)]
-pub(crate) struct PageAt {
+pub struct PageAt {
     pub page: u32,
     pub at: u32,
 }
 
 /// What is kept of the nodes and the pages of a file.
 #[derive(Drop)]
-pub(crate) struct FileNodes {
+pub struct FileNodes {
     /// The nids of its nodes by their offsets.
     pub nids: Nids,
     /// The addresses of its nodes by their offsets.
@@ -77,6 +77,7 @@ fn take_node(table: &[u32], zones: &mut Zones, node: NodeName) -> Result<u32, Mo
     ensures address { IfOk result (λ at. (held : Option Contents) (image : Image) (point : Checkpoint) → IsRead held zones.old.extent table.now image point → node_address image point node.nid ≡ at) }
     ensures least { IfOk result (λ _. (4 ≤ node.nid) ⊎ ((node.ino ≡ root) × (node.offset ≡ 0))) }
     ensures inside { IfOk result (λ at. is_in_node zones.old.extent at ≡ true) }
+    ensures within { OnOk result (node.nid < nid_limit zones.old.extent) }
     ensures free { IfOk result (λ at. set.contains zones.old.nodes at ≡ false) }
     ensures taken { IfOk result (λ at. zones.new ≡ record zones.old { nodes = set.insert zones.old.nodes at; nids = set.insert zones.old.nids node.nid }) }
     ensures fault { IfErr result (λ fault. (held : Option Contents) (image : Image) (point : Checkpoint) (inos : set.FinSet nat_cmp) (page : ℕ) → IsRead held zones.old.extent table.now image point
@@ -122,6 +123,7 @@ pub(crate) fn read_node<D: Disk>(
     ensures there { OnOk result ((image : Image) (point : Checkpoint) → IsRead (D.contents disk.old) zones.old.extent table.now image point → node_of image point node.nid ≡ Some block.new) }
     ensures seen { OnOk result ((image : Image) (point : Checkpoint) (inos : set.FinSet nat_cmp) (page : ℕ) → IsRead (D.contents disk.old) zones.old.extent table.now image point
         → IsNode image point node.ino node.offset node.nid → IsSeen image point inos node.ino node.offset page zones.old file.old → IsSeen image point inos node.ino (node.offset + 1) page zones.new file.new) }
+    ensures within { OnOk result (node.nid < nid_limit zones.old.extent) }
     ensures extent { OnOk result (zones.new.extent ≡ zones.old.extent) }
     ensures fault { IfErr result (λ fault. (image : Image) (point : Checkpoint) (inos : set.FinSet nat_cmp) (page : ℕ) → IsRead (D.contents disk.old) zones.old.extent table.now image point
         → IsNode image point node.ino node.offset node.nid → IsSeen image point inos node.ino node.offset page zones.old file.old → IsRightFault image point fault) }

@@ -23,7 +23,7 @@ pub(crate) enum Unfit {
 
 /// The addresses of both zones that nodes and pages have.
 #[derive(Debug, Drop)]
-pub(crate) struct Zones {
+pub struct Zones {
     geometry: Geometry,
     nodes: BitSet,
     pages: BitSet,

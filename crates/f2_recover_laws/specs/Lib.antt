@@ -1,0 +1,2 @@
+-- What follows from a base that was read.
+pub mod Sound
