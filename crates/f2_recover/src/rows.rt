@@ -63,7 +63,7 @@ impl BaseRows {
     pub fn contains(&self, ino: u32) -> bool
         ensures { result ≡ map.contains_key self.now ino }
     {
-        self.rows.get(&ino).is_some()
+        self.get(ino).is_some()
     }
 
     /// Puts the row of an ino. Where memory is refused nothing changes.
