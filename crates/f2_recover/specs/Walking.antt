@@ -125,7 +125,7 @@ pub record IsQueue (extent : Extent) (rows : BaseRows) (order : List ℕ) : Type
 -- a walk went on from another: its rows stay, and stand in the queue where they stood
 pub record IsLonger (old new : Walk) : Type 0 where
   pub rows : (ino : ℕ) (row : BaseRow) → map.get old.rows ino ≡ Some row → map.get new.rows ino ≡ Some row
-  pub length : length old.order.items ≤ length new.order.items
+  pub grows : length old.order.items ≤ length new.order.items
   pub order : (k : ℕ) → k < length old.order.items → slice_index_or new.order.items k 0 ≡ slice_index_or old.order.items k 0
 
 -- the names that were taken of a directory are those of so many first ones of its dents
@@ -154,3 +154,4 @@ pub record IsBaseRead (image : Image) (point : Checkpoint) (walk : Walk) : Type 
   pub reached : (nid : ℕ) → nid < nid_limit point.extent → (place_of_nid image point nid).1 ≢ 0 → set.contains walk.zones.nids nid ≡ true
   pub few_nodes : set.len walk.zones.nodes ≤ node_third point.extent
   pub few_pages : set.len walk.zones.pages ≤ data_third point.extent
+  pub deep : (ino : ℕ) (row : BaseRow) → map.get walk.rows ino ≡ Some row → row.depth ≤ most_depth row.file.kind
