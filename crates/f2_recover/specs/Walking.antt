@@ -154,3 +154,4 @@ pub record IsBaseRead (image : Image) (point : Checkpoint) (walk : Walk) : Type 
   pub reached : (nid : ℕ) → nid < nid_limit point.extent → (place_of_nid image point nid).1 ≢ 0 → set.contains walk.zones.nids nid ≡ true
   pub few_nodes : set.len walk.zones.nodes ≤ node_third point.extent
   pub few_pages : set.len walk.zones.pages ≤ data_third point.extent
+  pub deep : (ino : ℕ) (row : BaseRow) → map.get walk.rows ino ≡ Some row → row.depth ≤ most_depth row.file.kind

@@ -1,5 +1,5 @@
 -- A base that was read: none of the conditions under which an image stands for no tree stands in it, and its rows are those of the tree.
-use Rattle.std.specs.Prelude.{◌≡◌, ◌≢◌, ◌⊎◌, ℕ, ◌<◌, ◌≤◌, true, IsTrue, List, Option, Some, None}
+use Rattle.std.specs.Prelude.{◌≡◌, ◌≢◌, ℕ, ◌<◌, ◌≤◌, true, IsTrue, List, Option, Some, None}
 use Rattle.std.specs.Option.{option_map}
 use Rattle.std.specs.FinMap as map
 use Rattle.f2_format.specs.Dentry.{Dentry, dentry_fault}
@@ -9,7 +9,7 @@ use Rattle.f2_model.specs.Names.{is_good_name}
 use Rattle.f2_model.specs.Tree.{Rows, ROOT, most_depth}
 use Rattle.f2_model.specs.declared.rows.Row.{Row}
 use Rattle.f2_model.specs.declared.rows.Kind.{Kind}
-use Rattle.f2_model.specs.declared.rows.Kind.TheVariants.{Regular, Directory}
+use Rattle.f2_model.specs.declared.rows.Kind.TheVariants.{Regular}
 use Rattle.f2_image.specs.Images.{Image, block_at}
 use Rattle.f2_image.specs.Packs.{Checkpoint}
 use Rattle.f2_image.specs.Nodes.{node_address, place_of_nid}
