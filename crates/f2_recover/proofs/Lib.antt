@@ -18,3 +18,5 @@ pub mod JournalNids
 pub mod NextFiles
 pub mod Counted
 pub mod Slots
+pub mod ListPieces
+pub mod DirectoryDents
