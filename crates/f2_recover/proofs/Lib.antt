@@ -20,3 +20,5 @@ pub mod Counted
 pub mod Slots
 pub mod Points
 pub mod Walked
+pub mod ListPieces
+pub mod DirectoryDents

@@ -1,9 +1,10 @@
 //! The names of a directory of the base.
-ghost use Rattle.std.specs.Prelude.{◌≡◌, ◌≢◌, ◌≤◌, ℕ, Err, IfErr, IfOk, OnOk};
+ghost use Rattle.std.specs.Prelude.{◌≡◌, ◌≢◌, ◌≤◌, ℕ, ◌++◌, All, Err, IfErr, IfOk, OnOk};
 ghost use Rattle.f2_disk.specs.Meter.{HasFailed};
+ghost use Rattle.f2_dentry_block.specs.Dents.{dentry_of};
 ghost use Rattle.f2_image.specs.Images.{Image};
 ghost use Rattle.f2_image.specs.Packs.{Checkpoint};
-ghost use Rattle.f2_image.specs.Bases.{IsReached};
+ghost use Rattle.f2_image.specs.Bases.{IsReached, HasDentry};
 ghost use Rattle.f2_image.specs.Faults.{HasTable};
 ghost use Rattle.f2_recover.specs.Told.{Tells, OnlyReads};
 ghost use Rattle.f2_recover.specs.Faults.{IsRightFault};
@@ -44,6 +45,11 @@ pub(crate) fn read_names<D: Disk>(
 
 /// Appends the names of a block, each looked at.
 fn add_dents(dents: &mut Vec<Dent>, found: Vec<Dent>) -> Result<(), MountFault>
+    ensures dents { OnOk result (dents.new.items ≡ dents.old.items ++ found.items) }
+    ensures fit { OnOk result (AreFit found.items) }
+    ensures fault { IfErr result (λ fault. (image : Image) (point : Checkpoint) (directory : ℕ) → HasTable point → IsReached image point directory
+        → All (λ dent. HasDentry image point directory (dentry_of dent)) found.items → IsRightFault image point fault) }
+    ensures no_read { result ≢ Err MountFault.Read }
 {
     for dent in found {
         check_dent(&dent)?;
