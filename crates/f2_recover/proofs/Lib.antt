@@ -18,3 +18,7 @@ pub mod JournalNids
 pub mod NextFiles
 pub mod Counted
 pub mod Slots
+pub mod FreshKeys
+pub mod DentPlaces
+pub mod LongerWalks
+pub mod NextDents
