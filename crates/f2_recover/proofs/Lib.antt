@@ -22,3 +22,7 @@ pub mod Points
 pub mod Walked
 pub mod ListPieces
 pub mod DirectoryDents
+pub mod FreshKeys
+pub mod DentPlaces
+pub mod LongerWalks
+pub mod NextDents

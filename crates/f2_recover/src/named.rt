@@ -52,6 +52,7 @@ pub(crate) fn take_dent<D: Disk>(
     requires queue { IsQueue g.now walk.old.rows walk.old.order.items }
     requires fit { IsFitDent dent }
     requires depth { depth ≤ 17 }
+    requires below { 1 ≤ depth }
     ensures walked { OnOk result ((image : Image) (point : Checkpoint) (done : set.FinSet nat_cmp) (places : List (ℕ × ℕ)) (dents : List Dent) (count : ℕ) → IsRead (D.contents disk.old) g.now table.now image point
         → set.contains done directory ≡ false → AreDentsAt image point directory places dents → count < length dents → slice_index_or dents count no_dent ≡ dent → IsBelow image point (depth - 1) directory
         → AreFirstNames dents count names.old → IsWalkedTo image point done directory places count walk.old
