@@ -125,7 +125,7 @@ pub record IsQueue (extent : Extent) (rows : BaseRows) (order : List ℕ) : Type
 -- a walk went on from another: its rows stay, and stand in the queue where they stood
 pub record IsLonger (old new : Walk) : Type 0 where
   pub rows : (ino : ℕ) (row : BaseRow) → map.get old.rows ino ≡ Some row → map.get new.rows ino ≡ Some row
-  pub length : length old.order.items ≤ length new.order.items
+  pub grows : length old.order.items ≤ length new.order.items
   pub order : (k : ℕ) → k < length old.order.items → slice_index_or new.order.items k 0 ≡ slice_index_or old.order.items k 0
 
 -- the names that were taken of a directory are those of so many first ones of its dents
