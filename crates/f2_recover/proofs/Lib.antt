@@ -18,3 +18,11 @@ pub mod JournalNids
 pub mod NextFiles
 pub mod Counted
 pub mod Slots
+pub mod RowMaps
+pub mod FirstRow
+pub mod DirectoryBlocks
+pub mod WalkedDirectories
+pub mod QueueLengths
+pub mod WalkSteps
+pub mod DentTurns
+pub mod RowSteps
