@@ -26,3 +26,11 @@ pub mod FreshKeys
 pub mod DentPlaces
 pub mod LongerWalks
 pub mod NextDents
+pub mod RowMaps
+pub mod FirstRow
+pub mod DirectoryBlocks
+pub mod WalkedDirectories
+pub mod QueueLengths
+pub mod WalkSteps
+pub mod DentTurns
+pub mod RowSteps

@@ -1,5 +1,5 @@
 //! The walk from the root along the names of directories.
-ghost use Rattle.std.specs.Prelude.{◌≡◌, ◌≢◌, ◌+◌, ◌-◌, ◌≤◌, ◌<◌, ℕ, true, false, List, [], length, slice_index_or, Err, IfErr, IfOk, IfSome, OnOk, Some, None};
+ghost use Rattle.std.specs.Prelude.{◌≡◌, ◌≢◌, ◌-◌, ◌≤◌, ℕ, false, List, [], length, Err, IfErr, IfOk, OnOk, Some};
 ghost use Rattle.std.specs.Ordering.{nat_cmp};
 ghost use Rattle.std.specs.FinMap as map;
 ghost use Rattle.std.specs.FinSet as set;
@@ -7,11 +7,13 @@ ghost use Rattle.f2_disk.specs.Meter.{HasFailed};
 ghost use Rattle.f2_model.specs.declared.rows.Kind.TheVariants.{Directory};
 ghost use Rattle.f2_image.specs.Images.{Image};
 ghost use Rattle.f2_image.specs.Packs.{Checkpoint};
+ghost use Rattle.f2_image.specs.Faults.{IsBelow};
 ghost use Rattle.f2_recover.specs.Told.{OnlyReads};
 ghost use Rattle.f2_recover.specs.Faults.{IsRightFault};
 ghost use Rattle.f2_recover.specs.Reading.{IsRead};
+ghost use Rattle.f2_recover.specs.Dents.{AreDentsAt, AreFit};
 ghost use Rattle.f2_recover.specs.declared.rows.BaseRow.{BaseRow};
-ghost use Rattle.f2_recover.specs.Walking.{HasRow, IsWalkedTo, IsWalked, IsQueue, IsLonger};
+ghost use Rattle.f2_recover.specs.Walking.{HasRow, IsWalkedTo, IsWalked, IsQueue, IsLonger, AreFirstNames};
 
 use crate::faults::MountFault;
 use crate::files::read_file;
@@ -21,6 +23,7 @@ use crate::nodes::ROOT;
 use crate::rows::{BaseNames, BaseRow, BaseRows};
 use crate::standing::check_root;
 use crate::zones::Zones;
+use f2_dentry_block::Dent;
 use f2_dir::Dir;
 use f2_disk::Disk;
 use f2_layout::Geometry;
@@ -129,10 +132,44 @@ fn walk_row<D: Disk>(
     }
     let depth = row.depth + 1;
     let dents = read_names(alloc, disk, g, &row.file.nodes.list)?;
-    let mut names = Dir::new(alloc);
-    for dent in dents {
-        take_dent(alloc, disk, g, table, walk, &mut names, ino, depth, dent)?;
-    }
+    let names = take_dents(alloc, disk, g, table, walk, ino, depth, dents)?;
     walk.names.put(ino, names)?;
     Ok(())
+}
+
+/// Reads the files that the names of a directory bring, each so many names below the root, and gives the names.
+fn take_dents<D: Disk>(
+    alloc: Global,
+    disk: &mut D,
+    g: &Geometry,
+    table: &[u32],
+    walk: &mut Walk,
+    directory: u32,
+    depth: u32,
+    dents: Vec<Dent>,
+) -> Result<Dir, MountFault>
+    requires device { g.now.blocks ≤ (D.meter disk.old).blocks }
+    requires extent { walk.old.zones.extent ≡ g.now }
+    requires queue { IsQueue g.now walk.old.rows walk.old.order.items }
+    requires fit { AreFit dents.items }
+    requires below { 1 ≤ depth }
+    requires depth { depth ≤ 17 }
+    ensures walked { IfOk result (λ names. (image : Image) (point : Checkpoint) (done : set.FinSet nat_cmp) (places : List (ℕ × ℕ)) → IsRead (D.contents disk.old) g.now table.now image point → set.contains done directory ≡ false
+        → AreDentsAt image point directory places dents.items → IsBelow image point (depth - 1) directory → IsWalkedTo image point done directory places 0 walk.old
+        → IsWalkedTo image point done directory places (length dents.items) walk.new × AreFirstNames dents.items (length dents.items) names) }
+    ensures extent { OnOk result (walk.new.zones.extent ≡ g.now) }
+    ensures queue { OnOk result (IsQueue g.now walk.new.rows walk.new.order.items) }
+    ensures longer { OnOk result (IsLonger walk.old walk.new) }
+    ensures fault { IfErr result (λ fault. (image : Image) (point : Checkpoint) (done : set.FinSet nat_cmp) (places : List (ℕ × ℕ)) → IsRead (D.contents disk.old) g.now table.now image point → set.contains done directory ≡ false
+        → AreDentsAt image point directory places dents.items → IsBelow image point (depth - 1) directory → IsWalkedTo image point done directory places 0 walk.old → IsRightFault image point fault) }
+    ensures reads { OnlyReads (D.contents disk.old) (D.meter disk.old) (D.contents disk.new) (D.meter disk.new) }
+    ensures cause { result ≡ Err MountFault.Read → HasFailed (D.meter disk.old) (D.meter disk.new) }
+{
+    let mut names = Dir::new(alloc);
+    for dent in dents {
+        take_dent(
+            alloc, disk, g, table, walk, &mut names, directory, depth, dent,
+        )?;
+    }
+    Ok(names)
 }
