@@ -19,7 +19,7 @@ use Rattle.f2_image.specs.Images.{Image, block_at}
 use Rattle.f2_image.specs.Packs.{Checkpoint}
 use Rattle.f2_image.specs.Nodes.{place_of_nid}
 use Rattle.f2_image.specs.Bases.{IsInode, IsReached, IsDirectoryBlock, HasDentryAt, HasDentry}
-use Rattle.f2_image.specs.Faults.{IsForeign, IsBelow, IsPastSize, IsBadEntry}
+use Rattle.f2_image.specs.Faults.{HasTable, IsForeign, IsBelow, IsPastSize, IsBadEntry}
 use Rattle.f2_image.specs.Reached.{IsBasePage}
 use Rattle.f2_recover.specs.Dents.{no_dent, AreDentsAt}
 use Rattle.f2_recover.specs.Reading.{IsRead}
@@ -148,6 +148,7 @@ pub record IsPointOf (extent : Extent) (bitmap summary : List ℕ) (point : Chec
 
 -- the base of an image was read, and nothing is wrong with it
 pub record IsBaseRead (image : Image) (point : Checkpoint) (walk : Walk) : Type 0 where
+  pub has : HasTable point
   pub walked : IsWalked image point walk
   pub extent_is : walk.zones.extent ≡ point.extent
   pub entries : (nid : ℕ) → ¬ (IsBadEntry point nid)

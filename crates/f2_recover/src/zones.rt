@@ -96,11 +96,25 @@ impl Zones {
         Ok(())
     }
 
+    /// Whether a node has an address.
+    pub fn has_node(&self, at: u32) -> bool
+        ensures { result ≡ set.contains self.now.nodes at }
+    {
+        self.nodes.contains(at)
+    }
+
     /// Whether a nid is that of a node whose address was taken.
-    pub(crate) fn has_nid(&self, nid: u32) -> bool
+    pub fn has_nid(&self, nid: u32) -> bool
         ensures { result ≡ set.contains self.now.nids nid }
     {
         self.nids.contains(nid)
+    }
+
+    /// The least number that no node can have as its nid.
+    pub fn nid_limit(&self) -> u32
+        ensures { result ≡ nid_limit self.now.extent }
+    {
+        ENTRIES_A_NAT_BLOCK * self.geometry.nat()
     }
 
     /// How many addresses nodes have.

@@ -54,6 +54,7 @@ returns-clause-base g c image point tells is =
     let read = c.in_ok-table.ensures.table image point tells with in
     let again = read_as _ _ _ _ _ c.deref-2.result.now image point refl refl c.deref-2.ensures.value read in
     record {
+      has = with.has;
       walked = c.in_ok-walk.ensures.walked image point (read_as _ _ _ _ _ _ image point c.in_ok-table.ensures.reads.kept refl c.deref.ensures.value read);
       extent_is = c.in_ok-walk.ensures.extent ∙ sym is.extent_is;
       entries = c.in_ok-check_entries.ensures.right point is.extent_is is.summary_is;
