@@ -1,0 +1,3 @@
+-- Lemmas for reading the start of an image.
+pub mod Newest
+pub mod Seals

@@ -1,0 +1,2 @@
+-- What is read of an image first.
+pub mod Starts
