@@ -18,3 +18,4 @@ pub mod PageMaps
 pub mod Writing
 pub mod Naming
 pub mod Rooted
+pub mod Keeping

@@ -1,5 +1,5 @@
 -- What a running volume knows of its files: the shapes of their rows, and beside them parts of the machine's state as it has them.
-use Rattle.std.specs.Prelude.{◌≡◌, ℕ, [], None}
+use Rattle.std.specs.Prelude.{◌≡◌, ℕ, ◌⊎◌, [], Option, Some, None}
 use Rattle.std.specs.Ordering.{nat_cmp}
 use Rattle.std.specs.FinMap as map
 use Rattle.std.specs.FinSet as set
@@ -11,6 +11,7 @@ use Rattle.f2_model.specs.declared.rows.Kind.TheVariants.{Directory}
 use Rattle.f2_model.specs.declared.bounds.Limits.{Limits}
 use Rattle.f2_model.specs.declared.requests.Request.{Request}
 use Rattle.f2_files.specs.Shape.{Shapes, IsShapeOf, new_shape}
+use Rattle.f2_files.specs.declared.shapes.Shape.{Shape}
 
 pub record Known : Type 0 where
   pub shapes : Shapes
@@ -44,6 +45,16 @@ pub record IsAllowed (known : Known) (request : Request) : Type 0 where
 -- whichever state with a good tree was known before a call, after it that is known which the call leaves
 abbrev pub Follows : Known → Known → Request → ℕ → Type 0
 Follows old new request ino = (most : ℕ) (state : State) → IsGoodTree most state.live → IsKnownOf old state → IsKnownOf new (called state request ino)
+
+-- a page's address stays, or the page is new and has none yet
+abbrev pub IsAddressKept : Option ℕ → Option ℕ → Type 0
+IsAddressKept old now = (now ≡ old) ⊎ ((old ≡ None) × (now ≡ Some 0))
+
+-- after a call that takes no page away each row has the addresses and the nids that it had, and a new row has none
+pub record ArePlacesKept (old new : Known) : Type 0 where
+  pub nids : (ino : ℕ) (shape now : Shape) → map.get old.shapes ino ≡ Some shape → map.get new.shapes ino ≡ Some now → now.nids ≡ shape.nids
+  pub pages : (ino page : ℕ) (shape now : Shape) → map.get old.shapes ino ≡ Some shape → map.get new.shapes ino ≡ Some now → IsAddressKept (map.get shape.pages page) (map.get now.pages page)
+  pub fresh : (ino : ℕ) (now : Shape) → map.get old.shapes ino ≡ None → map.get new.shapes ino ≡ Some now → (now.pages ≡ map.empty) × (now.nids ≡ map.empty)
 
 -- what is known of the tree of the root alone
 abbrev pub known_root : Known

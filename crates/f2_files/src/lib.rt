@@ -8,7 +8,8 @@
 //! good tree whose rows have those shapes (`IsShapeOf` of `specs/Shape`), or of every state of the machine of which
 //! that is known (`IsKnownOf`). [`Files::walk`], [`Files::refusal`] and [`Files::names`] come to what the definitions of
 //! calls say of the tree; a call that isn't refused (`IsAllowed`) leaves known what the machine's state becomes
-//! (`Follows`). No call needs the contents of a page, and one that is refused memory leaves all as it was.
+//! (`Follows`), and each row the addresses and nids that it had (`ArePlacesKept`). No call needs the contents of a page,
+//! and one that is refused memory leaves all as it was.
 //!
 //! `specs/Led` says how names lead through directories alone, and when directories know them rightly, `specs/Refused`
 //! how they refuse requests.
