@@ -19,3 +19,8 @@ pub mod Writing
 pub mod Naming
 pub mod Rooted
 pub mod Keeping
+pub mod NodePages
+pub mod Swaps
+pub mod Truncating
+pub mod Cutting
+pub mod PageOrder
