@@ -1,5 +1,5 @@
 -- Names lead through directories to where a walk ends in each good tree of that shape.
-use Rattle.std.proofs.Common.{◌≡◌, ℕ, Bool, true, false, List, [], ◌∷◌, refl, sym, ap, ◌∙◌}
+use Rattle.std.proofs.Common.{◌≡◌, ℕ, Bool, true, false, List, [], ◌∷◌, refl, sym, ap, subst, ◌∙◌}
 use Rattle.std.specs.Prelude.{Option, Some, None, Result, Ok, Err, if◌then◌else◌}
 use Rattle.std.specs.FinMap as map
 use Rattle.f2_model.specs.Tree.{Rows, ROOT, IsGoodTree, is_directory, stands_at, child, walked, walk, or_no_entry}
@@ -86,6 +86,23 @@ module _ (tree : Rows) (rooted : IsRooted tree) (shapes : Shapes) (are : IsShape
 
 pub leads : (most : ℕ) (tree : Rows) → IsGoodTree most tree → (shapes : Shapes) → IsShapeOf shapes tree → (dirs : Dirs) → BindsNames shapes dirs → (path : List (List ℕ)) → led dirs path ≡ place_at (walk tree path)
 leads most tree good = leads_rooted tree (rooted_good most tree good)
+
+walked_there : (tree : Rows) → IsRooted tree → (names : List (List ℕ)) (row end : Row) → map.get tree row.ino ≡ Some row → walked tree names row ≡ Ok end → map.get tree end.ino ≡ Some end
+walked_there tree rooted [] row end there h = let same : row ≡ end = cc in subst (λ (r : Row). map.get tree r.ino ≡ Some r) same there
+walked_there tree rooted (name ∷ names) row end there h = by_kind (λ next is rest. walked_there tree rooted names next end is rest) (is_directory row.kind) h
+  where
+    by_child : ((next : Row) → map.get tree next.ino ≡ Some next → walked tree names next ≡ Ok end → map.get tree end.ino ≡ Some end) → (o : Option Row) → child tree row.ino name ≡ o → or_no_entry o (walked tree names) ≡ Ok end → map.get tree end.ino ≡ Some end
+    by_child on None is h = absurd (cc)
+    by_child on (Some next) is h = on next (child_found tree rooted row.ino name next is).0 h
+
+    by_kind : ((next : Row) → map.get tree next.ino ≡ Some next → walked tree names next ≡ Ok end → map.get tree end.ino ≡ Some end) → (b : Bool) → (if b then or_no_entry (child tree row.ino name) (walked tree names) else Err NotDir) ≡ Ok end → map.get tree end.ino ≡ Some end
+    by_kind on false h = absurd (cc)
+    by_kind on true h = by_child on (child tree row.ino name) refl h
+
+-- a walk ends at a row of the tree
+pub walk_there : (tree : Rows) → IsRooted tree → (path : List (List ℕ)) (end : Row) → walk tree path ≡ Ok end → map.get tree end.ino ≡ Some end
+walk_there tree rooted path end h =
+    walked_there tree rooted path rooted.root.0 end (ap (λ ino. map.get tree ino) rooted.root.2 ∙ rooted.root.1) (sym (ap (λ o. or_no_entry o (walked tree path)) rooted.root.1) ∙ h)
 
 pub ino_place : (end : Result Row Reply) → ino_of (place_at end) ≡ ino_at end
 ino_place (Ok row) = refl

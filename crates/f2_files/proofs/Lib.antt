@@ -18,3 +18,9 @@ pub mod PageMaps
 pub mod Writing
 pub mod Naming
 pub mod Rooted
+pub mod Keeping
+pub mod NodePages
+pub mod Swaps
+pub mod Truncating
+pub mod Cutting
+pub mod PageOrder

@@ -41,7 +41,7 @@ module _ {K X : Type 0} (R : K → K → Ordering) where
   keys_below x [] h = tt
   keys_below x (e ∷ es) h = (less _ (first _ _ h), keys_below x es (second _ _ h))
 
-  keys_sorted : (es : List (K × X)) → T (is_sorted R es) → IsStrictlySortedBy R (list_map (λ (e : K × X). e.0) es)
+  pub keys_sorted : (es : List (K × X)) → T (is_sorted R es) → IsStrictlySortedBy R (list_map (λ (e : K × X). e.0) es)
   unfolding IsStrictlySortedBy
   keys_sorted [] h = tt
   keys_sorted (e ∷ es) h = (keys_below e.0 es (first _ _ h), keys_sorted es (second _ _ h))

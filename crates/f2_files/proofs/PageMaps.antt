@@ -1,12 +1,12 @@
 -- Maps of pages with some put in or taken out.
-use Rattle.std.proofs.Common.{◌≡◌, ◌≢◌, ◌⊎◌, inl, inr, ℕ, Bool, true, false, cond, ◌||◌, List, [], ◌∷◌, ◌++◌, refl, sym, ap, ◌∙◌}
-use Rattle.std.specs.Prelude.{Option, None, is_some, if◌then◌else◌}
-use Rattle.std.specs.List.{fold, flat_map}
+use Rattle.std.proofs.Common.{◌≡◌, ◌≢◌, ◌⊎◌, inl, inr, ℕ, Bool, true, false, cond, not, ◌&&◌, ◌||◌, List, [], ◌∷◌, ◌++◌, refl, sym, ap, ◌∙◌}
+use Rattle.std.specs.Prelude.{Option, Some, None, is_some, if◌then◌else◌}
+use Rattle.std.specs.List.{filter, fold, flat_map, list_any}
 use Rattle.std.specs.Ordering.{nat_cmp, eq_by_cmp}
 use Rattle.std.specs.Cmp.{nat_cmp_total, unsigned_tied}
 use Rattle.std.specs.FinMap as map
 use Rattle.std.specs.FinMap.{FinMap, nat_cmp-IsAntisymmetric, get-remove}
-use Rattle.std.proofs.lemmas.Bool.{ne_eqb, eq-eqb}
+use Rattle.std.proofs.lemmas.Bool.{ne_eqb, eq-eqb, eqb-true}
 use Rattle.f2_laws.proofs.Maps.{get_put, get_put-other}
 use Rattle.f2_laws.proofs.Places.{same_or_other}
 use Rattle.f2_model.specs.Content.{PageMap, pages_of_piece, put_in_page, put_piece, put_pieces}
@@ -102,3 +102,40 @@ pieces_alike [] s r same q = same q
 pieces_alike (piece ∷ pieces) s r same q =
     ap (λ (m : Addressed). map.contains_key m q) (with-append s (pages_of_piece piece) (flat_map pages_of_piece pieces))
     ∙ pieces_alike pieces (with_all_pages s (pages_of_piece piece)) (put_piece r piece) (piece_alike piece (pages_of_piece piece) s r same) q
+
+has-filter : (test : ℕ → Bool) (xs : List ℕ) (q : ℕ) → has (filter test xs) q ≡ (has xs q && test q)
+unfolding has
+has-filter test [] q = refl
+has-filter test (x ∷ xs) q = by_test (has-filter test xs q) (test x) refl (eq_by_cmp nat_cmp q x) refl
+  where
+    none : (a : Bool) → (a && false) ≡ false
+    none true = refl
+    none false = refl
+
+    same : eq_by_cmp nat_cmp q x ≡ true → test q ≡ test x
+    same tie = ap test (eqb-true q x (sym (unsigned_tied q x) ∙ tie))
+
+    by_test : has (filter test xs) q ≡ (has xs q && test q) → (b : Bool) → test x ≡ b → (tie : Bool) → eq_by_cmp nat_cmp q x ≡ tie → has (cond b (x ∷ filter test xs) (filter test xs)) q ≡ ((tie || has xs q) && test q)
+    by_test rest true is true tie = ap (λ b. b || has (filter test xs) q) tie ∙ sym (same tie ∙ is)
+    by_test rest true is false tie = ap (λ b. b || has (filter test xs) q) tie ∙ rest
+    by_test rest false is true tie = rest ∙ ap (λ b. has xs q && b) (same tie ∙ is) ∙ none (has xs q) ∙ sym (same tie ∙ is)
+    by_test rest false is false tie = rest
+
+has-any : (xs : List ℕ) (q : ℕ) → has xs q ≡ list_any (eq_by_cmp nat_cmp q) xs
+unfolding has
+has-any [] q = refl
+has-any (x ∷ xs) q = ap (λ b. eq_by_cmp nat_cmp q x || b) (has-any xs q)
+
+-- without the pages that don't pass a test those are left that do
+pub without_past : (pages : Addressed) (test : ℕ → Bool) → without_all_pages pages (filter (λ page. not (test page)) (map.keys pages)) ≡ map.retain_keys pages test
+without_past pages test = map.same_map nat_cmp_total nat_cmp-IsAntisymmetric _ _ (λ q.
+    get-without (filter (λ page. not (test page)) (map.keys pages)) pages q
+    ∙ ap (λ b. cond b None (map.get pages q)) (has-filter (λ page. not (test page)) (map.keys pages) q ∙ ap (λ b. b && not (test q)) (has-any (map.keys pages) q ∙ sym (map.contains_key-keys pages q)))
+    ∙ left (map.get pages q) (test q)
+    ∙ sym (map.get-retain_keys pages test q (λ x tie. ap test (sym (nat_cmp-IsAntisymmetric q x tie)))))
+  where
+    left : (o : Option ℕ) (b : Bool) → cond (is_some o && not b) None o ≡ cond b o None
+    left None true = refl
+    left None false = refl
+    left (Some at) true = refl
+    left (Some at) false = refl

@@ -20,7 +20,7 @@ use Rattle.f2_files.specs.Shape.{Shapes, IsShape, IsShapeOf, with_all_pages}
 use Rattle.f2_files.specs.declared.shapes.Shape.{Shape}
 use Rattle.f2_files.proofs.Alike.{shape_there, put_alike}
 use Rattle.f2_files.proofs.Creating.{at_place}
-use Rattle.f2_files.proofs.Leads.{IsRooted, leads_rooted}
+use Rattle.f2_files.proofs.Leads.{IsRooted, leads_rooted, walk_there}
 use Rattle.f2_files.proofs.PageMaps.{pieces_alike}
 use Rattle.f2_files.proofs.Removing.{row_led}
 use Rattle.f2_files.proofs.Settling.{binds_changed}
@@ -50,6 +50,7 @@ pub record Changes (tree : Rows) (path : List (List ℕ)) (place : Place) (row :
   pub alike : IsShape row one
   pub now : Row
   pub leads_now : walk (map.insert tree one.ino (record one { size = size one; pages = pages one })) path ≡ Ok now
+  pub now_is : now ≡ (record one { size = size one; pages = pages one })
 
 module _ (shapes : Shapes) (dirs : Dirs) (binds : BindsNames shapes dirs) (path : List (List ℕ)) (place : Place) (led_to : led dirs path ≡ Ok place) (row : Shape) (there : map.get shapes place.0 ≡ Some row) where
   pub changes : (most : ℕ) (tree : Rows) → IsGoodTree most tree → IsShapeOf shapes tree → (size : Row → ℕ) (pages : Row → PageMap) (now : Shape)
@@ -67,9 +68,12 @@ module _ (shapes : Shapes) (dirs : Dirs) (binds : BindsNames shapes dirs) (path 
       let there_one : map.get shapes one.ino ≡ Some row = ap (λ i. map.get shapes i) end.2 ∙ there in
       let after_binds = binds_changed shapes dirs binds one.ino row now there_one (record { kind = kind; parent = parent; name = name }) in
       let after_are = put_alike shapes tree are one.ino now put (alike one shape) in
-      let led_after = leads_rooted (map.insert tree one.ino put) (rooted_changed most tree good one ends.there (size one) (pages one)) (map.insert shapes one.ino now) after_are dirs after_binds path in
+      let rooted = rooted_changed most tree good one ends.there (size one) (pages one) in
+      let led_after = leads_rooted (map.insert tree one.ino put) rooted (map.insert shapes one.ino now) after_are dirs after_binds path in
       let end_after = at_place (walk (map.insert tree one.ino put) path) place (sym led_after ∙ led_to) in
-      record { one = one; leads = end.1; own = end.2; alike = shape; now = end_after.0; leads_now = end_after.1 }
+      let still = walk_there (map.insert tree one.ino put) rooted path end_after.0 end_after.1 in
+      let same : end_after.0 ≡ put = some_same (sym still ∙ ap (λ i. map.get (map.insert tree one.ino put) i) (end_after.2 ∙ sym end.2) ∙ get_put tree one.ino put) in
+      record { one = one; leads = end.1; own = end.2; alike = shape; now = end_after.0; leads_now = end_after.1; now_is = same }
 
 written_alike : (row : Shape) (one : Row) (pieces : List Piece) → IsShape row one → IsShape (record row { size = raised_size row.size pieces; pages = with_all_pages row.pages (flat_map pages_of_piece pieces) }) (record one { size = raised_size one.size pieces; pages = put_pieces one.pages pieces })
 written_alike row one pieces is = record {

@@ -3,3 +3,4 @@ pub mod Known
 pub mod Led
 pub mod Shape
 pub mod Refused
+pub mod Cuts

@@ -1,5 +1,6 @@
 //! Where the pages of a file stand.
-ghost use Rattle.std.specs.Prelude.{◌≡◌, ◌++◌, ◌∷◌, [], ◌<◌, ◌^◌, None, OnOk, OnErr, nat_lt};
+ghost use Rattle.std.specs.Prelude.{◌≡◌, ◌++◌, ◌∷◌, [], ◌<◌, ◌^◌, ◌&&◌, not, None, OnOk, OnErr, IfOk, nat_lt};
+ghost use Rattle.std.specs.List.{filter, list_any};
 ghost use Rattle.std.specs.FinMap as map;
 ghost use Rattle.f2_files.specs.Shape.{with_all_pages, without_all_pages};
 
@@ -82,8 +83,25 @@ impl Addresses {
         self.pages.retain(|page, _| *page < from);
     }
 
+    /// The pages from a number on, rising.
+    pub(crate) fn numbers_from(&self, alloc: Global, from: u32) -> Result<Vec<u32>, AllocError>
+        ensures { IfOk result (λ numbers. numbers.items ≡ filter (λ page. not (nat_lt page from)) (map.keys self.now)) }
+    {
+        self.pages
+            .range(from..)
+            .map(|(page, _)| *page)
+            .collect(alloc)
+    }
+
+    /// Whether there is a page from one number up to another.
+    pub(crate) fn has_between(&self, from: u32, to: u32) -> bool
+        ensures { result ≡ list_any (λ page. not (nat_lt page from) && nat_lt page to) (map.keys self.now) }
+    {
+        from < to && self.pages.range(from..to).next().is_some()
+    }
+
     /// Takes out pages, where they are there.
-    fn remove_all(&mut self, numbers: &[u32])
+    pub(crate) fn remove_all(&mut self, numbers: &[u32])
         ensures { self.new ≡ without_all_pages self.old numbers.now }
     {
         for page in numbers {

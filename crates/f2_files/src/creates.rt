@@ -3,7 +3,7 @@ ghost use Rattle.std.specs.Prelude.{◌≡◌, ◌<◌, None, OnOk, OnErr, IfOk}
 ghost use Rattle.std.specs.FinMap as map;
 ghost use Rattle.f2_model.specs.Tree.{ROOT, last_name};
 ghost use Rattle.f2_model.specs.declared.requests.Request.TheVariants.{Create, Mkdir};
-ghost use Rattle.f2_files.specs.Known.{IsAllowed, Follows};
+ghost use Rattle.f2_files.specs.Known.{ArePlacesKept, IsAllowed, Follows};
 ghost use Rattle.f2_files.specs.Led.{bound_in, with_name};
 ghost use Rattle.f2_files.specs.Shape.{new_shape};
 
@@ -71,6 +71,7 @@ impl Files {
         requires free { map.get self.old.shapes ino ≡ None }
         requires above { ROOT < ino }
         ensures ok { OnOk result (Follows self.old self.new (Create path.now) ino) }
+        ensures places { OnOk result (ArePlacesKept self.old self.new) }
         ensures err { OnErr result (self.new ≡ self.old) }
     {
         match led_parent(&self.directories, path.as_slice()) {
@@ -89,6 +90,7 @@ impl Files {
         requires free { map.get self.old.shapes ino ≡ None }
         requires above { ROOT < ino }
         ensures ok { OnOk result (Follows self.old self.new (Mkdir path.now) ino) }
+        ensures places { OnOk result (ArePlacesKept self.old self.new) }
         ensures err { OnErr result (self.new ≡ self.old) }
     {
         match led_parent(&self.directories, path.as_slice()) {

@@ -8,10 +8,11 @@
 //! good tree whose rows have those shapes (`IsShapeOf` of `specs/Shape`), or of every state of the machine of which
 //! that is known (`IsKnownOf`). [`Files::walk`], [`Files::refusal`] and [`Files::names`] come to what the definitions of
 //! calls say of the tree; a call that isn't refused (`IsAllowed`) leaves known what the machine's state becomes
-//! (`Follows`). No call needs the contents of a page, and one that is refused memory leaves all as it was.
+//! (`Follows`), and each row the addresses and nids that it had (`ArePlacesKept`), but for those of pages that a truncate
+//! takes away (`ArePlacesCut`). No call needs the contents of a page, and one that is refused memory leaves all as it was.
 //!
 //! `specs/Led` says how names lead through directories alone, and when directories know them rightly, `specs/Refused`
-//! how they refuse requests.
+//! how they refuse requests, `specs/Cuts` what a cut at a size takes out of a file.
 #![tactic(auto)]
 
 mod addresses;
@@ -28,6 +29,7 @@ mod removes;
 mod renames;
 mod shapes;
 mod touches;
+mod truncates;
 mod writes;
 
 pub use addresses::Addresses;

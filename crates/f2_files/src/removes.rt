@@ -2,7 +2,7 @@
 ghost use Rattle.std.specs.Prelude.{◌≡◌, Some};
 ghost use Rattle.std.specs.FinMap as map;
 ghost use Rattle.f2_model.specs.declared.requests.Request.TheVariants.{Unlink, Rmdir};
-ghost use Rattle.f2_files.specs.Known.{IsAllowed, Follows};
+ghost use Rattle.f2_files.specs.Known.{ArePlacesKept, IsAllowed, Follows};
 ghost use Rattle.f2_files.specs.Led.{without_name};
 ghost use Rattle.f2_files.specs.declared.shapes.Shape.{Shape};
 
@@ -25,7 +25,8 @@ impl Files {
     /// Removes a regular file, of which nothing is dirty then.
     pub fn unlink(&mut self, path: &Path)
         requires { IsAllowed self.old (Unlink path.now) }
-        ensures { Follows self.old self.new (Unlink path.now) 0 }
+        ensures follows { Follows self.old self.new (Unlink path.now) 0 }
+        ensures places { ArePlacesKept self.old self.new }
     {
         match self.directories.led(path.as_slice()) {
             Ok((ino, _)) => {
@@ -41,7 +42,8 @@ impl Files {
     /// Removes an empty directory.
     pub fn rmdir(&mut self, path: &Path)
         requires { IsAllowed self.old (Rmdir path.now) }
-        ensures { Follows self.old self.new (Rmdir path.now) 0 }
+        ensures follows { Follows self.old self.new (Rmdir path.now) 0 }
+        ensures places { ArePlacesKept self.old self.new }
     {
         match self.directories.led(path.as_slice()) {
             Ok((ino, _)) => {

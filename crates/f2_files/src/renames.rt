@@ -4,7 +4,7 @@ ghost use Rattle.std.specs.FinMap as map;
 ghost use Rattle.std.specs.FinSet as set;
 ghost use Rattle.f2_model.specs.Tree.{last_name};
 ghost use Rattle.f2_model.specs.declared.requests.Request.TheVariants.{Rename};
-ghost use Rattle.f2_files.specs.Known.{IsAllowed, Follows};
+ghost use Rattle.f2_files.specs.Known.{ArePlacesKept, IsAllowed, Follows};
 ghost use Rattle.f2_files.specs.Led.{bound_in, with_name, without_name};
 ghost use Rattle.f2_files.specs.declared.shapes.Shape.{Shape};
 
@@ -74,6 +74,7 @@ impl Files {
     pub fn rename(&mut self, from: &Path, to: &Path) -> Result<(), AllocError>
         requires { IsAllowed self.old (Rename from.now to.now) }
         ensures ok { OnOk result (Follows self.old self.new (Rename from.now to.now) 0) }
+        ensures places { OnOk result (ArePlacesKept self.old self.new) }
         ensures err { OnErr result (self.new ≡ self.old) }
     {
         match self.directories.led(from.as_slice()) {

@@ -4,7 +4,7 @@ ghost use Rattle.std.specs.FinMap as map;
 ghost use Rattle.std.specs.Option.{option_copied};
 ghost use Rattle.f2_model.specs.Content.{end_of, raised_size};
 ghost use Rattle.f2_reference_calls.specs.Given.{MOST_SIZE};
-ghost use Rattle.f2_files.specs.Shape.{with_all_pages};
+ghost use Rattle.f2_files.specs.Shape.{with_all_pages, without_all_pages};
 ghost use Rattle.f2_files.specs.declared.shapes.Shape.{Shape};
 
 use crate::addresses::Addresses;
@@ -88,12 +88,13 @@ impl Shapes {
         self.rows.remove(&ino)
     }
 
-    /// Sets the size of a row that is there.
-    pub(crate) fn set_size(&mut self, ino: u32, size: u64)
-        ensures there { (row : Shape) → map.get self.old ino ≡ Some row → self.new ≡ map.insert self.old ino (record row { size = size }) }
+    /// Takes pages out of a row that is there, and sets its size.
+    pub(crate) fn cut(&mut self, ino: u32, size: u64, pages: &[u32])
+        ensures there { (row : Shape) → map.get self.old ino ≡ Some row → self.new ≡ map.insert self.old ino (record row { size = size; pages = without_all_pages row.pages pages.now }) }
         ensures missing { map.get self.old ino ≡ None → self.new ≡ self.old }
     {
         if let Some(row) = self.rows.get_mut(&ino) {
+            row.pages.remove_all(pages);
             row.size = size;
         }
     }

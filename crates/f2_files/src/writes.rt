@@ -4,7 +4,7 @@ ghost use Rattle.f2_model.specs.Content.{end_of};
 ghost use Rattle.f2_model.specs.State.{with_pairs, without_pairs};
 ghost use Rattle.f2_model.specs.declared.requests.Request.TheVariants.{Write};
 ghost use Rattle.f2_reference_calls.specs.Given.{MOST_SIZE};
-ghost use Rattle.f2_files.specs.Known.{IsAllowed, Follows};
+ghost use Rattle.f2_files.specs.Known.{ArePlacesKept, IsAllowed, Follows};
 
 use crate::files::Files;
 use crate::pairs::Pairs;
@@ -55,6 +55,7 @@ impl Files {
         requires allowed { IsAllowed self.old (Write path.now pieces.now) }
         requires within { All (λ piece. end_of piece ≤ MOST_SIZE) pieces.now }
         ensures ok { OnOk result (Follows self.old self.new (Write path.now pieces.now) 0) }
+        ensures places { OnOk result (ArePlacesKept self.old self.new) }
         ensures err { OnErr result (self.new ≡ self.old) }
     {
         match self.directories.led(path.as_slice()) {

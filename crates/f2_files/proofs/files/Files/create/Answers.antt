@@ -7,6 +7,7 @@ use Rattle.f2_files.specs.Refused.{led_parent}
 use Rattle.f2_files.specs.Shape.{IsShapeOf}
 use Rattle.f2_files.specs.declared.shapes.Shape.{Shape}
 use Rattle.f2_files.proofs.Creating.{binds_either, create_follows, file_binds, parent_leads}
+use Rattle.f2_files.proofs.Keeping.{kept_new}
 use Rattle.f2_files.proofs.Results.{ok_map}
 use Rattle.f2_files.proofs.files.Files.create.Goals as goal
 
@@ -36,3 +37,11 @@ returns-clause-ok c =
     ok_map c.put_named.result (λ put. subst (λ (o : Known). Follows o (record k { shapes = c.put_named.new.shapes }) (Create c.args.path.now) c.args.ino) c.self.view_is
     (create_follows k c.self.inside.directories c.self.invariant c.args.path.now (c.in-Ok.parent, c.in-Ok.field-0-1) led c.args.ino c.put_named.new.shapes
     (put ∙ ap (λ (r : Shape). map.insert k.shapes r.ino r) c.in_ok-row-in-Ok.ensures))) c.put_named.ensures.rows
+
+pub returns-clause-places : goal.returns-clause-places
+returns-clause-places c =
+    let row : Shape = c.in_ok-row-in-Ok.row in
+    let own : row.ino ≡ c.args.ino = ap (λ (r : Shape). r.ino) c.in_ok-row-in-Ok.ensures in
+    ok_map c.put_named.result (λ put. kept_new c.args.self.now _ c.self.inside.shapes (ap (λ (k : Known). k.shapes) c.self.view_is) row.ino row
+    (ap (map.get c.self.inside.shapes) own ∙ ap (λ (k : Known). map.get k.shapes c.args.ino) c.self.view_is ∙ c.requires.free) put
+    (ap (λ (r : Shape). r.pages) c.in_ok-row-in-Ok.ensures) (ap (λ (r : Shape). r.nids) c.in_ok-row-in-Ok.ensures)) c.put_named.ensures.rows

@@ -9,6 +9,7 @@ use Rattle.f2_files.specs.Shape.{Shapes, IsShapeOf}
 use Rattle.f2_files.specs.declared.shapes.Shape.{Shape}
 use Rattle.f2_files.proofs.Changes.{put_taken}
 use Rattle.f2_files.proofs.Creating.{mkdir_follows, directory_binds, no_directory, parent_leads}
+use Rattle.f2_files.proofs.Keeping.{kept_new}
 use Rattle.f2_files.proofs.files.Files.mkdir.Goals as goal
 
 pub unreachable-requires : goal.unreachable-requires
@@ -48,3 +49,11 @@ returns-in-Ok-put_named-clause-ok c =
     subst (λ (o : Known). Follows o (record k { shapes = c.put_named.new.shapes }) (Mkdir c.args.path.now) c.args.ino) c.self.view_is
     (mkdir_follows k c.self.inside.directories c.self.invariant c.args.path.now (c.in-Ok.parent, c.in-Ok.field-0-1) led c.args.ino c.put_named.new.shapes
     (c.in-Ok-put_named.ensures.rows ∙ ap (λ (r : Shape). map.insert k.shapes r.ino r) c.in_ok-row-in-Ok.ensures))
+
+pub returns-in-Ok-put_named-clause-places : goal.returns-in-Ok-put_named-clause-places
+returns-in-Ok-put_named-clause-places c =
+    let row : Shape = c.in_ok-row-in-Ok.row in
+    let own : row.ino ≡ c.args.ino = ap (λ (r : Shape). r.ino) c.in_ok-row-in-Ok.ensures in
+    kept_new c.args.self.now _ c.self.inside.shapes (ap (λ (k : Known). k.shapes) c.self.view_is) row.ino row
+    (ap (map.get c.self.inside.shapes) own ∙ ap (λ (k : Known). map.get k.shapes c.args.ino) c.self.view_is ∙ c.requires.free) c.in-Ok-put_named.ensures.rows
+    (ap (λ (r : Shape). r.pages) c.in_ok-row-in-Ok.ensures) (ap (λ (r : Shape). r.nids) c.in_ok-row-in-Ok.ensures)

@@ -1,4 +1,4 @@
-use Rattle.std.proofs.Common.{◌≡◌, Ok, Err, List, ℕ, sym, ap, subst, ◌∙◌}
+use Rattle.std.proofs.Common.{◌≡◌, inl, Ok, Err, List, ℕ, refl, sym, ap, subst, ◌∙◌}
 use Rattle.std.specs.FinMap as map
 use Rattle.f2_model.specs.Tree.{last_name}
 use Rattle.f2_model.specs.State.{Inos}
@@ -9,6 +9,7 @@ use Rattle.f2_files.specs.Refused.{led_parent}
 use Rattle.f2_files.specs.Shape.{Shapes, IsShapeOf}
 use Rattle.f2_files.specs.declared.shapes.Shape.{Shape}
 use Rattle.f2_files.proofs.Creating.{parent_leads}
+use Rattle.f2_files.proofs.Keeping.{kept_put}
 use Rattle.f2_files.proofs.Removing.{names_lead, shape_led}
 use Rattle.f2_files.proofs.Renaming.{from_leads, to_leads, to_free, rename_binds, rename_follows}
 use Rattle.f2_files.proofs.files.Files.rename.Goals as goal
@@ -70,3 +71,15 @@ returns-clause-ok c =
     subst (λ (o : Known). Follows o (record k { shapes = c.put_moved.new.shapes; moved = c.bind_moved.new.moved }) (Rename c.args.from.now c.args.to.now) 0) c.self.view_is
     (subst (λ (s : Shapes). Follows k (record k { shapes = s; moved = c.bind_moved.new.moved }) (Rename c.args.from.now c.args.to.now) 0) (sym rows)
     (subst (λ (m : Inos). Follows k (record k { shapes = map.insert k.shapes place.0 (record row { parent = at; name = last_name c.args.to.now }); moved = m }) (Rename c.args.from.now c.args.to.now) 0) (sym c.in_ok-bind_moved-in-Ok-led_parent.ensures.moved) follows))
+
+pub returns-clause-places : goal.returns-clause-places
+returns-clause-places c =
+    let shapes = c.self.inside.shapes in
+    let dirs = c.self.inside.directories in
+    let place = c.in-Ok.row in
+    let at = c.in-Ok-led_parent.directory in
+    let are = subst (λ (k : Known). IsShapeOf k.shapes c.requires.tree) (sym c.self.view_is) c.requires.shape in
+    let leads : led dirs c.args.from.now ≡ Ok place = ap (led dirs) (sym c.as_slice.ensures) ∙ sym c.led.ensures ∙ c.in-Ok.is in
+    let shape = shape_led shapes dirs c.self.invariant c.requires.most c.requires.tree c.requires.good are c.args.from.now place leads in
+    let row : Shape = shape.0 in
+    kept_put c.args.self.now _ shapes (ap (λ (k : Known). k.shapes) c.self.view_is) place.0 row (record row { parent = at; name = c.in_ok-name-in-Ok-led_parent.name }) shape.1 (c.put_moved.ensures.rows row shape.1) refl (λ page. inl refl)

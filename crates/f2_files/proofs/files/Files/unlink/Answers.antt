@@ -7,6 +7,7 @@ use Rattle.f2_files.specs.Known.{Known, Follows}
 use Rattle.f2_files.specs.Led.{led, BindsNames}
 use Rattle.f2_files.specs.Shape.{Shapes, IsShapeOf}
 use Rattle.f2_files.specs.declared.shapes.Shape.{Shape}
+use Rattle.f2_files.proofs.Keeping.{kept_less}
 use Rattle.f2_files.proofs.Removing.{names_lead, shape_led, unlink_binds, unlink_follows}
 use Rattle.f2_files.proofs.files.Files.unlink.Goals as goal
 
@@ -29,8 +30,8 @@ invariant_of-self c =
     let names = c.take_named.ensures.names row shape.1 in
     subst (λ (s : Shapes). BindsNames s c.take_named.new.directories) (sym c.take_named.ensures.rows) (subst (BindsNames (map.remove shapes c.in-Ok.ino)) (sym names) binds)
 
-pub returns : goal.returns
-returns c =
+pub returns-clause-follows : goal.returns-clause-follows
+returns-clause-follows c =
     let dirs = c.self.inside.directories in
     let leads : led dirs c.args.path.now ≡ Ok (c.in-Ok.ino, c.in-Ok.field-0-1) = ap (led dirs) (sym c.as_slice.ensures) ∙ sym c.led.ensures ∙ c.in-Ok.is in
     let k : Known = record { shapes = c.self.inside.shapes; dirty_pages = c.self.inside.dirty_pages; dirty_nodes = c.self.inside.dirty_nodes; moved = c.self.inside.moved; shrunk = c.self.inside.shrunk; flights = c.self.inside.flights } in
@@ -39,3 +40,6 @@ returns c =
     (subst (λ (s : Shapes). Follows k (record k { shapes = s; dirty_pages = c.remove_ino.new.self; dirty_nodes = c.remove_ino-in-Ok.new.self }) (Unlink c.args.path.now) 0) (sym c.take_named.ensures.rows)
     (subst (λ (p : Pairs). Follows k (record k { shapes = map.remove k.shapes c.in-Ok.ino; dirty_pages = p; dirty_nodes = c.remove_ino-in-Ok.new.self }) (Unlink c.args.path.now) 0) (sym c.remove_ino.ensures)
     (subst (λ (p : Pairs). Follows k (record k { shapes = map.remove k.shapes c.in-Ok.ino; dirty_pages = without_ino c.in-Ok.ino k.dirty_pages; dirty_nodes = p }) (Unlink c.args.path.now) 0) (sym c.remove_ino-in-Ok.ensures) follows)))
+
+pub returns-clause-places : goal.returns-clause-places
+returns-clause-places c = kept_less c.args.self.now _ c.self.inside.shapes (ap (λ (k : Known). k.shapes) c.self.view_is) c.in-Ok.ino c.take_named.ensures.rows

@@ -9,6 +9,7 @@ use Rattle.f2_files.specs.Known.{Known, Follows}
 use Rattle.f2_files.specs.Led.{led}
 use Rattle.f2_files.specs.Shape.{Shapes, IsShapeOf, with_all_pages}
 use Rattle.f2_files.specs.declared.shapes.Shape.{Shape}
+use Rattle.f2_files.proofs.Keeping.{kept_put, pages_kept}
 use Rattle.f2_files.proofs.Removing.{names_lead, shape_led}
 use Rattle.f2_files.proofs.Settling.{binds_result}
 use Rattle.f2_files.proofs.Writing.{write_follows}
@@ -49,3 +50,17 @@ returns-in-Ok-put_pieces-clause-ok c =
     (subst (λ (s : Shapes). Follows k (record k { shapes = s; dirty_pages = c.touch.new.dirty_pages; dirty_nodes = c.touch.new.dirty_nodes }) (Write c.args.path.now pieces) 0) (sym rows)
     (subst (λ (p : Pairs). Follows k (record k { shapes = map.insert k.shapes ino (record row { size = raised_size row.size pieces; pages = with_all_pages row.pages (flat_map pages_of_piece pieces) }); dirty_pages = p; dirty_nodes = c.touch.new.dirty_nodes }) (Write c.args.path.now pieces) 0) (sym pages)
     (subst (λ (p : Pairs). Follows k (record k { shapes = map.insert k.shapes ino (record row { size = raised_size row.size pieces; pages = with_all_pages row.pages (flat_map pages_of_piece pieces) }); dirty_pages = with_pairs ino k.dirty_pages (flat_map pages_of_piece pieces); dirty_nodes = p }) (Write c.args.path.now pieces) 0) (sym nodes) follows)))
+
+pub returns-in-Ok-put_pieces-clause-places : goal.returns-in-Ok-put_pieces-clause-places
+returns-in-Ok-put_pieces-clause-places c =
+    let shapes = c.self.inside.shapes in
+    let dirs = c.self.inside.directories in
+    let allowed = c.requires.allowed in
+    let ino = c.in-Ok.ino in
+    let pieces = c.args.pieces.now in
+    let are = subst (λ (k : Known). IsShapeOf k.shapes allowed.tree) (sym c.self.view_is) allowed.shape in
+    let leads : led dirs c.args.path.now ≡ Ok (ino, c.in-Ok.field-0-1) = ap (led dirs) (sym c.as_slice.ensures) ∙ sym c.led.ensures ∙ c.in-Ok.is in
+    let shape = shape_led shapes dirs c.self.invariant allowed.most allowed.tree allowed.good are c.args.path.now (ino, c.in-Ok.field-0-1) leads in
+    let row : Shape = shape.0 in
+    let pages : List ℕ = c.as_slice-in-Ok-4.result.now in
+    kept_put c.args.self.now _ shapes (ap (λ (k : Known). k.shapes) c.self.view_is) ino row (record row { size = raised_size row.size pieces; pages = with_all_pages row.pages pages }) shape.1 (c.in-Ok-put_pieces.ensures.there row shape.1) refl (λ page. pages_kept row.pages pages page)
