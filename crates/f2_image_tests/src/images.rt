@@ -8,7 +8,7 @@ use f2_layout::{Geometry, write_super};
 use f2_model::{Kind, Name};
 use f2_nat_block::{Bitmap, NatEntry, set};
 use f2_node_block::{Inode, write_inode, write_word};
-use f2_pack::{Head, write_head};
+use f2_pack::{Head, Side, write_head};
 use std::alloc::Global;
 use std::test::Fail;
 
@@ -131,20 +131,35 @@ pub(crate) fn put_table(disk: &mut MemDisk, entries: &[(u32, u32)]) -> Result<()
     put(disk, 9, &table)
 }
 
+/// Writes the head and the tail of a pack, with these flags.
+pub(crate) fn put_head(
+    disk: &mut MemDisk,
+    side: Side,
+    version: u64,
+    flags: u32,
+) -> Result<(), Fail> {
+    let head = Head {
+        version,
+        log_start: 20,
+        flags,
+        bitmap: Bitmap::new(),
+    };
+    let mut block = [0; 4096];
+    write_head(&mut block, &head, 1);
+    let at = match side {
+        Side::A => 2,
+        Side::B => 5,
+    };
+    put(disk, at, &block)?;
+    put(disk, at + 2, &block)
+}
+
 /// Writes the superblock and the first pack.
 fn put_pack(disk: &mut MemDisk) -> Result<(), Fail> {
     let mut block = [0; 4096];
     write_super(&mut block, &Geometry::new(128, 1)?);
     put(disk, 0, &block)?;
-    let head = Head {
-        version: 7,
-        log_start: 20,
-        flags: 0,
-        bitmap: Bitmap::new(),
-    };
-    write_head(&mut block, &head, 1);
-    put(disk, 2, &block)?;
-    put(disk, 4, &block)
+    put_head(disk, Side::A, 7, 0)
 }
 
 /// File 4, with its pages 0 and 923 in blocks 40 and 41.

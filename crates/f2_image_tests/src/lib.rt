@@ -7,3 +7,5 @@
 mod base;
 #[cfg(test)]
 mod images;
+#[cfg(test)]
+mod start;
