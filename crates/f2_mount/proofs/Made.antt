@@ -3,15 +3,15 @@ use Rattle.std.proofs.Common.{◌≡◌, inl, ◌<◌, [], ◌∷◌, length, re
 use Rattle.std.specs.Prelude.{if◌then◌else◌}
 use Rattle.std.proofs.lemmas.List.Elements.{All-map}
 use Rattle.f2_format.specs.Geometry.{Extent}
-use Rattle.f2_disk.specs.Contents.{Contents, IsImage, alone, latest}
+use Rattle.f2_disk.specs.Contents.{Contents, IsImage, alone}
 use Rattle.f2_disk.proofs.ContentsLaws.{latest_alone}
 use Rattle.f2_disk.proofs.PickLaws.{latest_image}
-use Rattle.f2_model.specs.State.{State, initial, MayRemain}
+use Rattle.f2_model.specs.State.{initial}
 use Rattle.f2_model.specs.declared.modes.Format.TheVariants.{One, Two}
 use Rattle.f2_image.specs.Images.{Image, IsSized}
 use Rattle.f2_image.specs.Packs.{Checkpoint}
-use Rattle.f2_image.specs.Meanings.{MeansAt, IsCleanAt, IsLeft, IsSafe}
-use Rattle.f2_laid.specs.Laid.{IsStorable, IsLaidAt, root_alone}
+use Rattle.f2_image.specs.Meanings.{IsLeft}
+use Rattle.f2_laid.specs.Laid.{IsLaidAt, root_alone}
 use Rattle.f2_laid.specs.declared.stored.Stored.{Stored}
 use Rattle.f2_laid_laws.proofs.Base.{IsStored, sizes_right, is_base}
 use Rattle.f2_laid_laws.proofs.NoLog.{no_marks}
