@@ -14,8 +14,8 @@ use std::alloc::Global;
 /// lost.
 ///
 /// Memory is taken before the first write, so after [`MakeFault::Memory`] the disk is as it was. After
-/// [`MakeFault::Write`], and after a crash in the middle, anything may be there: neither the old content nor an image
-/// can be counted on, and the disk has only its number of blocks still.
+/// [`MakeFault::Write`], and after a crash in the middle, anything may be there: a part of the new image, the old
+/// content or none. Only the number of blocks stays.
 pub fn mkfs<D: Disk>(alloc: Global, disk: &mut D, geometry: &Geometry) -> Result<(), MakeFault>
     requires { geometry.now.blocks ≤ (D.meter disk.old).blocks }
 
