@@ -33,6 +33,17 @@ impl Model for FileDisk {
 }
 
 impl FileDisk {
+    /// No file: a disk without blocks, of which each flush fails.
+    pub fn none() -> FileDisk
+        ensures { result ≡ record { is_open = false; blocks = 0; faults = 0 } }
+    {
+        FileDisk {
+            file: None,
+            blocks: 0,
+            faults: 0,
+        }
+    }
+
     /// The file with this name, which is read and written.
     pub fn open<R: Files<File = File>>(rt: &R, path: &str) -> FileDisk
         ensures faults { result.faults ≡ 0 }
@@ -44,7 +55,7 @@ impl FileDisk {
                 blocks,
                 faults: 0,
             },
-            Err(_) => FileDisk::closed(),
+            Err(_) => FileDisk::none(),
         }
     }
 
@@ -61,18 +72,7 @@ impl FileDisk {
                 blocks,
                 faults: 0,
             },
-            Err(_) => FileDisk::closed(),
-        }
-    }
-
-    /// No file.
-    fn closed() -> FileDisk
-        ensures { result ≡ record { is_open = false; blocks = 0; faults = 0 } }
-    {
-        FileDisk {
-            file: None,
-            blocks: 0,
-            faults: 0,
+            Err(_) => FileDisk::none(),
         }
     }
 

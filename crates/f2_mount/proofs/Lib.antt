@@ -1,0 +1,2 @@
+-- Lemmas about new images.
+pub mod Made

@@ -1,0 +1,3 @@
+-- Volumes on a disk.
+pub mod Faults
+pub mod Making
