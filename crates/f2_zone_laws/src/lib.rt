@@ -8,7 +8,7 @@
 //! - A zone whose used addresses have all that stands in it gives free ones alone: at the address that a call of
 //!   `f2_space` takes or draws, a write keeps what the volume keeps, and no node and no page of the live tree stands
 //!   there. So it is between two checkpoints, and while a mount is at work.
-//! - `Zone::reserve`, `Zone::take_log` and `Zone::draw` ask that no more than a third of the zone be kept. It isn't
+//! - `Zone::reserve`, `Zone::take_log` and `Zone::draw` ask that no more than a third of the zone be kept. So it is
 //!   where what is kept are addresses of the base.
 //! - `Zone::adopt` asks that fewer than two thirds be kept. So it is as long as what is adopted, with the address at
 //!   hand, is of the base, the node log or the marks that a mount found.
