@@ -139,7 +139,7 @@ fn misname(alloc: Global, disk: &mut MemDisk, flaw: Flaw) -> Result<(), Fail> {
             kind: Kind::Directory,
         },
     };
-    put_names(alloc, disk, 39, &names)
+    put_names(alloc, disk, 39, names)
 }
 
 /// Whether an image with this flaw is refused by that.

@@ -1,5 +1,8 @@
 //! A small image, written block by block by the codecs.
 
+ghost use Rattle.std.specs.Prelude.{◌≡◌, IfOk};
+ghost use Rattle.f2_dentry_block.specs.Packed.{HasNameLength};
+
 use f2_bytes::Block;
 use f2_dentry_block::{Dent, pack};
 use f2_disk::{Disk, MemDisk};
@@ -54,7 +57,9 @@ pub(crate) fn put_file(disk: &mut MemDisk, file: FileAt) -> Result<(), Fail> {
 }
 
 /// The footer of a node that no fsync wrote.
-fn footer(nid: u32, ino: u32, offset: u32) -> Footer {
+fn footer(nid: u32, ino: u32, offset: u32) -> Footer
+    ensures { result.offset ≡ offset }
+{
     Footer {
         nid,
         ino,
@@ -89,24 +94,36 @@ pub(crate) struct Bound {
     pub kind: Kind,
 }
 
-/// Writes a block of a directory.
+/// A name as a block of a directory has it.
+fn dent(alloc: Global, bound: Bound) -> Result<Dent, Fail>
+    ensures { IfOk result (λ dent. HasNameLength dent.name) }
+{
+    if bound.name.is_empty() || bound.name.len() > 255 {
+        return Err(Fail::from("no name"));
+    }
+    Ok(Dent {
+        name: Name::from_slice(alloc, bound.name)?,
+        ino: bound.ino,
+        kind: bound.kind,
+    })
+}
+
+/// Writes a block of a directory with one name.
+fn put_name(alloc: Global, disk: &mut MemDisk, at: u32, name: Bound) -> Result<(), Fail> {
+    let dents = [dent(alloc, name)?];
+    let blocks = pack(alloc, &dents)?;
+    put(disk, at, blocks.first().ok_or("no block")?)
+}
+
+/// Writes a block of a directory with two names.
 pub(crate) fn put_names(
     alloc: Global,
     disk: &mut MemDisk,
     at: u32,
-    names: &[Bound],
+    names: [Bound; 2],
 ) -> Result<(), Fail> {
-    let mut dents = Vec::new(alloc);
-    for bound in names {
-        if bound.name.is_empty() || bound.name.len() > 255 {
-            return Err(Fail::from("no name"));
-        }
-        dents.push(Dent {
-            name: Name::from_slice(alloc, bound.name)?,
-            ino: bound.ino,
-            kind: bound.kind,
-        })?;
-    }
+    let [first, second] = names;
+    let dents = [dent(alloc, first)?, dent(alloc, second)?];
     let blocks = pack(alloc, &dents)?;
     put(disk, at, blocks.first().ok_or("no block")?)
 }
@@ -198,17 +215,13 @@ pub(crate) fn small_image(alloc: Global) -> Result<MemDisk, Fail> {
     put_directories(&mut disk)?;
     put_file(&mut disk, FILE)?;
     put_direct(&mut disk)?;
-    put_names(alloc, &mut disk, 39, &NAMES)?;
-    put_names(
-        alloc,
-        &mut disk,
-        42,
-        &[Bound {
-            name: b"b",
-            ino: 7,
-            kind: Kind::Regular,
-        }],
-    )?;
+    put_names(alloc, &mut disk, 39, NAMES)?;
+    let below = Bound {
+        name: b"b",
+        ino: 7,
+        kind: Kind::Regular,
+    };
+    put_name(alloc, &mut disk, 42, below)?;
     Ok(disk)
 }
 
