@@ -94,14 +94,7 @@ fn makes_as_said(alloc: Global, row: &str) -> Result<bool, AllocError> {
     let mut sink = MemSink::new(alloc, 256, &[])?;
     let bench = MemBench::new(alloc)?;
     let disk = MemDisk::new(alloc, blocks)?;
-    let (status, _, _) = run_plain(
-        alloc,
-        words.as_slice(),
-        &mut source,
-        &mut sink,
-        bench,
-        disk,
-    );
+    let (status, _, _) = run_plain(alloc, words.as_slice(), &mut source, &mut sink, bench, disk);
     Ok(status.number() == number && sink.bytes() == printed.as_slice())
 }
 

@@ -20,5 +20,5 @@ mod player;
 mod replay;
 
 pub use commands::{run, run_plain};
-pub use making::{Sizes, sizes_asked};
 pub use f2_play::Status;
+pub use making::{Sizes, sizes_asked};

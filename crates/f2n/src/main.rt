@@ -50,9 +50,7 @@ fn disk_of_words<R: Files<File = File>>(rt: &R, words: &[String]) -> FileDisk {
 }
 
 /// Runs the command that the arguments name.
-fn run_command<
-    R: Env + AllocGlobal + Files<File = File> + Input + Print + Threads + Wait + Sync,
->(
+fn run_command<R: Env + AllocGlobal + Files<File = File> + Input + Print + Threads + Wait + Sync>(
     rt: &R,
 ) -> Result<Status, AllocError> {
     let words = words(rt)?;
