@@ -5,7 +5,7 @@ use Rattle.f2_script.specs.declared.script.Line.{Line}
 use Rattle.f2_script.specs.declared.script.Grammar.{Grammar}
 use Rattle.f2_script.specs.Grammar.{IsTooLong, Spells, IsFirstFault}
 use Rattle.f2_play.specs.declared.status.Status.{Status}
-use Rattle.f2_play.specs.declared.status.Status.TheVariants.{Done, Usage, TooLong, Script, SourceFault, SinkFault, Geometry, Memory}
+use Rattle.f2_play.specs.declared.status.Status.TheVariants.{Done, Usage, TooLong, Script, SourceFault, SinkFault, DiskFault, Geometry, Memory}
 use Rattle.f2_play.specs.Scripts.{BreaksLimit}
 
 -- the statuses that no bytes are due
@@ -48,3 +48,4 @@ pub record IsDue (grammar : Grammar) (bytes : List ℕ) (status : Status) : Type
   pub only_faulty : (line : ℕ) → status ≡ Script line → IsFaulty grammar bytes line
   pub only_broken : (limit : Limit) (value : ℕ) → status ≡ Geometry limit value → IsBroken grammar bytes limit value
   pub never : ¬ (status ≡ Usage)
+  pub never_disk : ¬ (status ≡ DiskFault)

@@ -3,7 +3,7 @@ use Rattle.std.specs.Prelude.{ℕ, List, [], ◌∷◌, ◌++◌, codes, decimal
 use Rattle.f2_layout.specs.declared.geometry.Limit.{Limit}
 use Rattle.f2_layout.specs.declared.geometry.Limit.TheVariants.{Blocks, Nat, Zones, Nids, Device}
 use Rattle.f2_play.specs.declared.status.Status.{Status}
-use Rattle.f2_play.specs.declared.status.Status.TheVariants.{Done, Usage, TooLong, Script, SourceFault, SinkFault, Geometry, Memory}
+use Rattle.f2_play.specs.declared.status.Status.TheVariants.{Done, Usage, TooLong, Script, SourceFault, SinkFault, DiskFault, Geometry, Memory}
 
 -- the exit status of the program
 abbrev pub number_of : Status → ℕ
@@ -13,6 +13,7 @@ number_of TooLong = 2
 number_of (Script line) = 3
 number_of SourceFault = 4
 number_of SinkFault = 5
+number_of DiskFault = 6
 number_of (Geometry limit value) = 8
 number_of Memory = 9
 
@@ -40,6 +41,7 @@ last_line TooLong = codes "f2n: toolong" ++ 10 ∷ []
 last_line (Script line) = numbered_line (codes "f2n: script line ") line
 last_line SourceFault = []
 last_line SinkFault = []
+last_line DiskFault = codes "f2n: diskfault" ++ 10 ∷ []
 last_line (Geometry limit value) = numbered_line (limit_head limit) value
 last_line Memory = []
 
@@ -51,5 +53,6 @@ IsSilent TooLong = ⊥
 IsSilent (Script line) = ⊥
 IsSilent SourceFault = Unit {0}
 IsSilent SinkFault = Unit {0}
+IsSilent DiskFault = ⊥
 IsSilent (Geometry limit value) = ⊥
 IsSilent Memory = Unit {0}

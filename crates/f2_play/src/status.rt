@@ -21,7 +21,9 @@ pub enum Status {
     SourceFault,
     /// A write to the sink failed; what went out is the beginning of what was to be printed.
     SinkFault,
-    /// The sizes of a `mkfs` line break this limit, by this number.
+    /// A call of the disk failed.
+    DiskFault,
+    /// The sizes of a `mkfs` line, or of the command `mkfs`, break this limit, by this number.
     Geometry { limit: Limit, value: u32 },
     /// Memory was refused; the line that it was refused to printed nothing.
     Memory,
@@ -47,6 +49,7 @@ impl Status {
             Status::Script { .. } => 3,
             Status::SourceFault => 4,
             Status::SinkFault => 5,
+            Status::DiskFault => 6,
             Status::Geometry { .. } => 8,
             Status::Memory => 9,
         }

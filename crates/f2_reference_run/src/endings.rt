@@ -15,6 +15,7 @@ pub fn push_last_line(status: Status, text: &mut Vec<u8>) -> Result<(), AllocErr
         Status::Usage => text.extend_from_slice(b"f2n: usage\n"),
         Status::TooLong => text.extend_from_slice(b"f2n: toolong\n"),
         Status::Script { line } => push_numbered(text, b"f2n: script line ", line),
+        Status::DiskFault => text.extend_from_slice(b"f2n: diskfault\n"),
         Status::Geometry { limit, value } => push_numbered(text, limit_head(limit), value),
         Status::Done | Status::SourceFault | Status::SinkFault | Status::Memory => Ok(()),
     }

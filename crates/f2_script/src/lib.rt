@@ -6,6 +6,8 @@
 //! which lines a script of a [`Grammar`] may have, and where, in `specs/Grammar.antt`. `laws` says that bytes
 //! have one reading, and that what is written is read again.
 //!
+//! `number` reads a number as scripts spell it, for words that stand outside a script.
+//!
 //! The text of a reply stands in `specs/Replies.antt`, that of an event in `specs/Steps.antt`, that of a tree
 //! in `specs/Trees.antt`, and the calls of a `gen` line in `specs/Generator.antt`.
 #![tactic(auto)]
@@ -37,3 +39,4 @@ pub use line_texts::line_text;
 pub use reply_texts::reply_text;
 pub use script::{Grammar, Line, Lines, ScriptFault};
 pub use tree_texts::tree_text;
+pub use words::number;

@@ -76,6 +76,7 @@ due-free bytes s free = record {
   only_faulty = λ line is. absurd (subst IsFree is free);
   only_broken = λ limit value is. absurd (subst IsFree is free);
   never = λ is. absurd (subst IsFree is free);
+  never_disk = λ is. absurd (subst IsFree is free);
 }
 
 -- the other statuses are due to bytes of which their reason holds
@@ -90,6 +91,7 @@ due-done bytes lines fits spelled within = record {
   only_faulty = λ line is. absurd (cc);
   only_broken = λ limit value is. absurd (cc);
   never = λ is. absurd (cc);
+  never_disk = λ is. absurd (cc);
 }
 
 due-long : (bytes : List ℕ) → IsTooLong bytes → IsDue bytes status.TooLong
@@ -103,6 +105,7 @@ due-long bytes long = record {
   only_faulty = λ line is. absurd (cc);
   only_broken = λ limit value is. absurd (cc);
   never = λ is. absurd (cc);
+  never_disk = λ is. absurd (cc);
 }
 
 due-line : (bytes : List ℕ) (n : ℕ) → ¬ (IsTooLong bytes) → IsFirstFault grammar.Replay bytes n → IsDue bytes (status.Script n)
@@ -116,6 +119,7 @@ due-line bytes n fits first = record {
   only_faulty = λ line is. record { fits = fits; first = subst (IsFirstFault grammar.Replay bytes) (line_of n line is) first };
   only_broken = λ limit value is. absurd (cc);
   never = λ is. absurd (cc);
+  never_disk = λ is. absurd (cc);
 }
   where
     line_of : (m n : ℕ) → status.Script m ≡ status.Script n → m ≡ n
@@ -133,6 +137,7 @@ due-limit bytes lines l v fits spelled breaks = record {
   only_broken = λ limit value is. let one : l ≡ limit = limit_of l limit v value is in let two : v ≡ value = value_of l limit v value is in
       record { fits = fits; lines = lines; spelled = spelled; broken = subst (λ x. BreaksLimit lines x value) one (subst (λ x. BreaksLimit lines l x) two breaks) };
   never = λ is. absurd (cc);
+  never_disk = λ is. absurd (cc);
 }
   where
     limit_of : (l k : Limit) (v w : ℕ) → status.Geometry l v ≡ status.Geometry k w → l ≡ k
@@ -151,6 +156,7 @@ due-lines bytes lines status.Usage fits spelled due = absurd due
 due-lines bytes lines status.TooLong fits spelled due = absurd due
 due-lines bytes lines (status.Script line) fits spelled due = absurd due
 due-lines bytes lines status.SourceFault fits spelled due = absurd due
+due-lines bytes lines status.DiskFault fits spelled due = absurd due
 
 -- a source that tells what it has gave these bytes alone
 cancel : (xs ys zs : List ℕ) → xs ++ zs ≡ ys ++ zs → xs ≡ ys
@@ -209,6 +215,7 @@ played-due lines status.Usage within played = absurd played
 played-due lines status.TooLong within played = absurd played
 played-due lines (status.Script line) within played = absurd played
 played-due lines status.SourceFault within played = absurd played
+played-due lines status.DiskFault within played = absurd played
 played-due lines (status.Geometry limit value) within played = absurd played
 
 pub IsDueLines-played : (lines rest : List Line) (asked got : Extent) (s : Status) → lines ≡ Mkfs asked.blocks asked.nat ∷ rest → Ok got ≡ geometry_of asked → IsPlayed s → IsDueLines lines s
@@ -216,3 +223,7 @@ IsDueLines-played lines rest asked got s is sizes played = played-due lines s (u
 
 pub IsDueLines-none : (lines : List Line) → lines ≡ [] → IsDueLines lines status.Done
 IsDueLines-none lines none limit value breaks = let no : BreaksLimit [] limit value = subst (λ ls. BreaksLimit ls limit value) none breaks in absurd no
+
+-- no lines are due a fault of the disk
+pub IsDueLines-no_disk : (lines : List Line) (s : Status) → IsDueLines lines s → ¬ (s ≡ status.DiskFault)
+IsDueLines-no_disk lines s due is = absurd (subst (IsDueLines lines) is due)

@@ -53,6 +53,7 @@ pub(crate) fn put_last_line<K: Sink>(sink: &mut K, status: Status) -> Result<(),
         Status::Usage => put(sink, b"f2n: usage\n"),
         Status::TooLong => put(sink, b"f2n: toolong\n"),
         Status::Script { line } => put_numbered(sink, b"f2n: script line ", line),
+        Status::DiskFault => put(sink, b"f2n: diskfault\n"),
         Status::Geometry { limit, value } => put_numbered(sink, limit_head(limit), value),
         Status::Done | Status::SourceFault | Status::SinkFault | Status::Memory => Ok(()),
     }
