@@ -1,5 +1,5 @@
-//! Worked scripts, through the top call: one table of commands and what they print, and a script whose reads and writes
-//! fail one after another; and the one call of the core that no script makes.
+//! Worked scripts, through the top call: one table of commands and what they print, one of commands on a disk, and a script
+//! whose reads and writes fail one after another; and the one call of the core that no script makes.
 ghost use Rattle.f2_core.specs.Events.{IsServed};
 
 use f2_core::{Core, making_writes};
@@ -26,6 +26,24 @@ open already|replay|mkfs 128 1;mount;call 1 sync;call 2 create /a|0|ok mkfs 9 30
 refused creates|replay|mkfs 128 1;call 1 create /a//b;call 1 create /;call 1 create /a;call 1 create /a;call 1 create /a/b;call 1 create /b/c|0|ok mkfs 9 30;badname;exists;ok;exists;notdir;noent
 refused writes|replay|mkfs 128 1;call 1 create /a;call 1 write /a//b 0 1 1;call 1 write / 0 1 1;call 1 write /b 0 1 1;call 1 write /a/b 0 1 1;call 1 write /a 3780608 1 1;call 1 write /a 18446744073709551615 1 1|0|ok mkfs 9 30;ok;badname;isdir;noent;notdir;toobig;toobig
 last data block|replay|mkfs 128 1;call 1 create /a;call 1 write /a 0 65536 1;call 1 write /a 61440 57344 1;call 1 write /a 3776512 1 1;call 1 write /a 0 65536 1|0|ok mkfs 9 30;ok;ok;ok;nospace data 31 30;ok";
+
+/// In each line a name, the words of a command that makes an image, the blocks of its disk, the number that it ends with,
+/// and the line that is printed.
+const IMAGES: &str = "as large as the disk|mkfs image 128 1|128|0|ok mkfs 9 30
+smaller than the disk|mkfs image 128 1|130|0|ok mkfs 9 30
+larger than the disk|mkfs image 128 1|100|8|f2n: geometry device 128
+no disk|mkfs image 128 1|0|8|f2n: geometry device 128
+too few blocks|mkfs image 127 1|0|8|f2n: geometry blocks 127
+too many blocks|mkfs image 65537 1|128|8|f2n: geometry blocks 65537
+the most that a word can say|mkfs image 4294967295 1|128|8|f2n: geometry blocks 4294967295
+more than a word can say|mkfs image 4294967296 1|128|1|f2n: usage
+no table|mkfs image 128 0|128|8|f2n: geometry nat 0
+no room for the zones|mkfs image 128 40|128|8|f2n: geometry zones 3
+too few nids|mkfs image 2048 1|128|8|f2n: geometry nids 455
+a leading zero|mkfs image 0128 1|128|1|f2n: usage
+a sign|mkfs image 128 +1|128|1|f2n: usage
+no sizes|mkfs image|128|1|f2n: usage
+one word more|mkfs image 128 1 1|128|1|f2n: usage";
 
 /// The text with a byte 10 at the end of each line.
 fn lines(alloc: Global, text: &str) -> Result<Vec<u8>, AllocError> {
@@ -65,6 +83,21 @@ fn run(
     Ok((status, text))
 }
 
+/// Whether a command on a disk of its own ends, and prints, as its line of the table says.
+fn makes_as_said(alloc: Global, row: &str) -> Result<bool, AllocError> {
+    let mut parts = row.split('|').skip(1);
+    let words = words(alloc, parts.next().unwrap_or(""))?;
+    let blocks = parts.next().unwrap_or("").parse().unwrap_or(0);
+    let number = parts.next().unwrap_or("").parse().unwrap_or(u8::MAX);
+    let printed = lines(alloc, parts.next().unwrap_or(""))?;
+    let mut source = MemSource::new(alloc, b"", &[])?;
+    let mut sink = MemSink::new(alloc, 256, &[])?;
+    let bench = MemBench::new(alloc)?;
+    let disk = MemDisk::new(alloc, blocks)?;
+    let (status, _, _) = run_plain(alloc, words.as_slice(), &mut source, &mut sink, bench, disk);
+    Ok(status.number() == number && sink.bytes() == printed.as_slice())
+}
+
 /// Whether a command ends, and prints, as its line of the table says.
 fn is_as_said(alloc: Global, row: &str) -> Result<bool, AllocError> {
     let mut parts = row.split('|').skip(1);
@@ -80,6 +113,14 @@ fn is_as_said(alloc: Global, row: &str) -> Result<bool, AllocError> {
 fn commands_print_what_is_said(rt: HostRuntime) -> Result<(), Fail> {
     for row in TABLE.lines() {
         assert!(rt; is_as_said(rt.alloc(), row)?, "{row}");
+    }
+    Ok(())
+}
+
+#[test]
+fn images_are_made_as_said(rt: HostRuntime) -> Result<(), Fail> {
+    for row in IMAGES.lines() {
+        assert!(rt; makes_as_said(rt.alloc(), row)?, "{row}");
     }
     Ok(())
 }

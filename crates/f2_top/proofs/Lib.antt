@@ -5,3 +5,4 @@ pub mod PlayLemmas
 pub mod MountLemmas
 pub mod ReplayLemmas
 pub mod DueLemmas
+pub mod MakingLemmas

@@ -5,3 +5,4 @@ pub mod Streams
 pub mod Runs
 pub mod Replay
 pub mod Words
+pub mod Making

@@ -1,14 +1,17 @@
 //! The top calls.
-ghost use Rattle.std.specs.Prelude.{◌≡◌, ◌≤◌, ◌⊎◌, ◌↔◌, ℕ, List, IsTrue, map, string_bytes};
+ghost use Rattle.std.specs.Prelude.{◌≡◌, ◌↔◌, ℕ, List, IsTrue, map, string_bytes};
 ghost use Rattle.f2_disk.specs.Faults.{Rose};
+ghost use Rattle.f2_disk.specs.Meter.{HasFailed};
+ghost use Rattle.f2_format.specs.Geometry.{Extent};
 ghost use Rattle.f2_script.specs.declared.script.Grammar.TheVariants.{Replay};
 ghost use Rattle.f2_play.specs.Due.{IsDue};
-ghost use Rattle.f2_play.specs.Endings.{IsSilent};
 ghost use Rattle.f2_top.specs.Reads.{IsTaken};
 ghost use Rattle.f2_top.specs.Words.{IsReplay};
-ghost use Rattle.f2_top.specs.Replay.{CountsFaults, Finishes, IsReplayed, IsRefused};
+ghost use Rattle.f2_top.specs.Making.{IsMade, IsMkfs, IsNoMkfs};
+ghost use Rattle.f2_top.specs.Replay.{CountsFaults, IsReplayed, IsRefused};
 
-use crate::output::put_last_line;
+use crate::making::{mkfs, sizes_asked};
+use crate::output::finish;
 use crate::replay::replay;
 use f2_disk::{Bench, Disk, Sink, Source};
 use f2_model::Meet;
@@ -26,19 +29,6 @@ fn is_replay(words: &[String]) -> bool
     }
 }
 
-/// Writes the last line of a status, and gives the status with which the run ends then.
-fn finish<K: Sink>(sink: &mut K, status: Status) -> Status
-    ensures finished { Finishes (K.written sink.old) (K.written sink.new) status result }
-    ensures kept { IsSilent status → sink.new ≡ sink.old }
-    ensures later { K.faults sink.old ≤ K.faults sink.new }
-    ensures cause { result ≡ Status.SinkFault → (status ≡ Status.SinkFault) ⊎ Rose (K.faults sink.old) (K.faults sink.new) }
-{
-    match put_last_line(sink, status) {
-        Ok(()) => status,
-        Err(_) => Status::SinkFault,
-    }
-}
-
 /// Runs a command that needs no threads.
 pub fn run_plain<S: Source, K: Sink, B: Bench, D: Disk>(
     alloc: Global,
@@ -46,7 +36,7 @@ pub fn run_plain<S: Source, K: Sink, B: Bench, D: Disk>(
     source: &mut S,
     sink: &mut K,
     bench: B,
-    disk: D,
+    mut disk: D,
 ) -> (Status, B, D)
     // What `replay` wrote follows from the bytes that it read, and what it left on its bench is safe; a bench whose count
     // of faults stands at its end can't be asked whether a call of it failed.
@@ -57,17 +47,28 @@ pub fn run_plain<S: Source, K: Sink, B: Bench, D: Disk>(
     ensures due { IsReplay (map string_bytes words.now)
         → (bytes : List ℕ) → IsTaken (S.remaining source.old) (S.remaining source.new) bytes → IsDue Replay bytes result.0 }
 
-    // Other words are no command: nothing is read, and only that is said.
-    ensures usage { ¬ (IsReplay (map string_bytes words.now)) → IsRefused (K.written sink.old) (K.written sink.new) result.0 }
+    // A new image stands on the disk as the words ask, or what kept it from that is told.
+    ensures makes { (extent : Extent) → IsMkfs (map string_bytes words.now) extent
+        → IsMade extent (D.contents disk) (D.contents result.2) (D.meter disk) (D.meter result.2) (K.written sink.old) (K.written sink.new) result.0 }
+
+    // Words that are neither are no command, and only that is said.
+    ensures usage { ¬ (IsReplay (map string_bytes words.now)) → IsNoMkfs (map string_bytes words.now) → IsRefused (K.written sink.old) (K.written sink.new) result.0 }
+
+    // Nothing is read but by `replay`, which alone has a use for the bench; and only a new image touches the disk.
     ensures unread { ¬ (IsReplay (map string_bytes words.now)) → source.new ≡ source.old }
+    ensures bench { ¬ (IsReplay (map string_bytes words.now)) → result.1 ≡ bench }
+    ensures disk { IsNoMkfs (map string_bytes words.now) → result.2 ≡ disk }
 
     // A fault is answered only where the count of the object that it is blamed on rose.
     ensures read { result.0 ≡ Status.SourceFault → Rose (S.faults source.old) (S.faults source.new) }
     ensures silent { result.0 ≡ Status.SourceFault → sink.new ≡ sink.old }
     ensures wrote { result.0 ≡ Status.SinkFault → Rose (K.faults sink.old) (K.faults sink.new) }
-
-    ensures disk { result.2 ≡ disk }
+    ensures disk_fault { result.0 ≡ Status.DiskFault → HasFailed (D.meter disk) (D.meter result.2) }
 {
+    if let Some(asked) = sizes_asked(words) {
+        let status = mkfs(alloc, sink, &mut disk, asked);
+        return (status, bench, disk);
+    }
     if !is_replay(words) {
         return (finish(sink, Status::Usage), bench, disk);
     }
@@ -91,14 +92,17 @@ pub fn run<R: Threads + Wait + Sync, S: Source, K: Sink, B: Bench, D: Disk + Sen
     ensures due { IsReplay (map string_bytes words.now)
         → (bytes : List ℕ) → IsTaken (S.remaining source.old) (S.remaining source.new) bytes → IsDue Replay bytes result.0 }
 
-    ensures usage { ¬ (IsReplay (map string_bytes words.now)) → IsRefused (K.written sink.old) (K.written sink.new) result.0 }
+    ensures makes { (extent : Extent) → IsMkfs (map string_bytes words.now) extent
+        → IsMade extent (D.contents disk) (D.contents result.2) (D.meter disk) (D.meter result.2) (K.written sink.old) (K.written sink.new) result.0 }
+    ensures usage { ¬ (IsReplay (map string_bytes words.now)) → IsNoMkfs (map string_bytes words.now) → IsRefused (K.written sink.old) (K.written sink.new) result.0 }
     ensures unread { ¬ (IsReplay (map string_bytes words.now)) → source.new ≡ source.old }
+    ensures bench { ¬ (IsReplay (map string_bytes words.now)) → result.1 ≡ bench }
+    ensures disk { IsNoMkfs (map string_bytes words.now) → result.2 ≡ disk }
 
     ensures read { result.0 ≡ Status.SourceFault → Rose (S.faults source.old) (S.faults source.new) }
     ensures silent { result.0 ≡ Status.SourceFault → sink.new ≡ sink.old }
     ensures wrote { result.0 ≡ Status.SinkFault → Rose (K.faults sink.old) (K.faults sink.new) }
-
-    ensures disk { result.2 ≡ disk }
+    ensures disk_fault { result.0 ≡ Status.DiskFault → HasFailed (D.meter disk) (D.meter result.2) }
 {
     run_plain(alloc, words, source, sink, bench, disk)
 }

@@ -1,7 +1,8 @@
 //! Writing texts to a sink.
-ghost use Rattle.std.specs.Prelude.{◌≡◌, ◌∷◌, ◌++◌, [], decimal, IsOk};
-ghost use Rattle.f2_disk.specs.Faults.{HasCause};
+ghost use Rattle.std.specs.Prelude.{◌≡◌, ◌≤◌, ◌⊎◌, ◌∷◌, ◌++◌, [], decimal, IsOk};
+ghost use Rattle.f2_disk.specs.Faults.{HasCause, Rose};
 ghost use Rattle.f2_play.specs.Endings.{IsSilent, last_line, numbered_line};
+ghost use Rattle.f2_top.specs.Replay.{Finishes};
 ghost use Rattle.f2_top.specs.Streams.{Puts};
 
 use f2_disk::{Failed, Sink};
@@ -56,5 +57,18 @@ pub(crate) fn put_last_line<K: Sink>(sink: &mut K, status: Status) -> Result<(),
         Status::DiskFault => put(sink, b"f2n: diskfault\n"),
         Status::Geometry { limit, value } => put_numbered(sink, limit_head(limit), value),
         Status::Done | Status::SourceFault | Status::SinkFault | Status::Memory => Ok(()),
+    }
+}
+
+/// Writes the last line of a status, and gives the status with which the run ends then.
+pub(crate) fn finish<K: Sink>(sink: &mut K, status: Status) -> Status
+    ensures finished { Finishes (K.written sink.old) (K.written sink.new) status result }
+    ensures kept { IsSilent status → sink.new ≡ sink.old }
+    ensures later { K.faults sink.old ≤ K.faults sink.new }
+    ensures cause { result ≡ Status.SinkFault → (status ≡ Status.SinkFault) ⊎ Rose (K.faults sink.old) (K.faults sink.new) }
+{
+    match put_last_line(sink, status) {
+        Ok(()) => status,
+        Err(_) => Status::SinkFault,
     }
 }

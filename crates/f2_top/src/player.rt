@@ -36,7 +36,7 @@ fn ended(mut text: Vec<u8>) -> Result<Vec<u8>, AllocError>
 }
 
 /// The line that is printed for an image of these sizes.
-fn mkfs_line(alloc: Global, geometry: &Geometry) -> Result<Vec<u8>, AllocError>
+pub(crate) fn mkfs_line(alloc: Global, geometry: &Geometry) -> Result<Vec<u8>, AllocError>
     ensures { IfOk result (λ text. text.items ≡ line_of (made_spelling (node_third geometry.now) (data_third geometry.now))) }
 {
     ended(made_text(alloc, geometry.cn(), geometry.cd())?)

@@ -25,6 +25,7 @@ pub(crate) fn replay<S: Source, K: Sink, B: Bench>(
     ensures ran { CountsFaults (B.meter bench) → (out : List ℕ) × Appends (K.written sink.old) (K.written sink.new) out
         × Ran (B.contents result.1) (S.remaining source.old) (S.remaining source.new) result.0 out }
     ensures due { (bytes : List ℕ) → IsTaken (S.remaining source.old) (S.remaining source.new) bytes → IsDue Replay bytes result.0 }
+    ensures no_disk { ¬ (result.0 ≡ Status.DiskFault) }
     ensures read { result.0 ≡ Status.SourceFault → Rose (S.faults source.old) (S.faults source.new) }
     ensures silent { result.0 ≡ Status.SourceFault → sink.new ≡ sink.old }
     ensures later { K.faults sink.old ≤ K.faults sink.new }

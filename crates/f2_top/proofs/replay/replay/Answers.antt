@@ -1,7 +1,7 @@
 use Rattle.std.proofs.Common.{sym, subst, refl, inl, ap, Err, List, ℕ}
 use Rattle.f2_top.specs.Reads.{TakesScript}
 use Rattle.f2_top.proofs.ReplayLemmas.{Spells-playable, Ran-lines, Ran-none, Ran-line, ok-fits, line-fits}
-use Rattle.f2_top.proofs.DueLemmas.{DueTaken-lines, DueTaken-long, DueTaken-line}
+use Rattle.f2_top.proofs.DueLemmas.{DueTaken-lines, DueTaken-long, DueTaken-line, IsDueLines-no_disk}
 use Rattle.f2_top.proofs.replay.replay.Goals as goal
 
 pub play-requires : goal.play-requires
@@ -46,3 +46,6 @@ pub returns-clause-ran : goal.returns-clause-ran
 returns-clause-ran g c =
     let taken = subst (λ (b : List ℕ). TakesScript (g.S.Source.remaining c.args.source.now) (g.S.Source.remaining c.read_script.new.source) b) (sym c.as_slice.ensures.value) c.in-Ok.ensures.ok in
     λ counts. Ran-none _ _ _ _ _ _ taken (inl refl)
+
+pub returns-in-Ok-parse-clause-no_disk : goal.returns-in-Ok-parse-clause-no_disk
+returns-in-Ok-parse-clause-no_disk g c = IsDueLines-no_disk c.in-Ok-parse.lines _ c.play.ensures.due
