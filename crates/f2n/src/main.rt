@@ -1,15 +1,24 @@
-//! The program `f2n`: runs a command of `f2_top` on standard input and output, and ends with the number of its status.
+//! The program `f2n`: runs a command of `f2_top` on standard input and output and on the image file that its words name,
+//! and ends with the number of its status.
 #![tactic(auto)]
 
-use f2_disk::{MemBench, MemDisk, StdSink, StdSource};
+use f2_disk::{MemBench, StdSink, StdSource};
+use f2_file_disk::FileDisk;
 use f2_model::Meet;
-use f2_top::{Status, run};
+use f2_top::{Status, run, sizes_asked};
 use std::alloc::AllocError;
+use std::fs::{File, Files};
 use std::process::ExitCode;
 use std::rt::Env;
 use std::sync::Wait;
 use std::thread::Threads;
 use std::{env, io};
+
+/// The fewest blocks of an image, for which a file is made.
+const LEAST_BLOCKS: u32 = 128;
+
+/// The most blocks of an image.
+const MOST_BLOCKS: u32 = 65_536;
 
 /// Workers that don't wait for each other.
 struct NoMeeting;
@@ -29,15 +38,26 @@ fn words<R: Env + AllocGlobal>(rt: &R) -> Result<Vec<String>, AllocError> {
     }
 }
 
+/// The disk of a command. The words `mkfs IMAGE B N` make the file IMAGE as long as an image of B blocks, where there are
+/// such; for other words there is no file.
+fn disk_of_words<R: Files<File = File>>(rt: &R, words: &[String]) -> FileDisk {
+    match (words, sizes_asked(words)) {
+        ([_, image, ..], Some(sizes)) if (LEAST_BLOCKS..=MOST_BLOCKS).contains(&sizes.blocks) => {
+            FileDisk::make(rt, image.as_str(), sizes.blocks)
+        }
+        _ => FileDisk::none(),
+    }
+}
+
 /// Runs the command that the arguments name.
-fn run_command<R: Env + AllocGlobal + Input + Print + Threads + Wait + Sync>(
+fn run_command<R: Env + AllocGlobal + Files<File = File> + Input + Print + Threads + Wait + Sync>(
     rt: &R,
 ) -> Result<Status, AllocError> {
     let words = words(rt)?;
     let mut source = StdSource::new(rt.reader());
     let mut sink = StdSink::new(io::writer(rt));
     let bench = MemBench::new(rt.alloc())?;
-    let disk = MemDisk::new(rt.alloc(), 0)?;
+    let disk = disk_of_words(rt, words.as_slice());
     let (status, _, _) = run(
         rt,
         rt.alloc(),
