@@ -1,16 +1,15 @@
 -- What the command that makes an image does, from what its parts do.
-use Rattle.std.proofs.Common.{◌≡◌, ℕ, ◌+◌, ◌-◌, ◌^◌, ◌<◌, ◌≤◌, min, List, [], ◌∷◌, length, map, get_or, refl, sym, ap, ◌∙◌, subst, arith, inl, inr, ◌⊎◌, true, false, is_err, Result, Ok, Err}
+use Rattle.std.proofs.Common.{◌≡◌, ℕ, ◌+◌, ◌-◌, ◌^◌, ◌≤◌, min, List, [], ◌∷◌, length, map, get_or, refl, sym, ap, ◌∙◌, subst, arith, inl, inr, ◌⊎◌, false, is_err, Result, Ok, Err}
 use Rattle.std.specs.Prelude.{codes, decimal, Option, Some, None, option_map, OnOk}
 use Rattle.std.specs.Io.KnownBytes.{Appends}
 use Rattle.std.proofs.lemmas.Fmt.{decimal_injective}
 use Rattle.f2_format.specs.Geometry.{Extent}
 use Rattle.f2_disk.specs.Contents.{Contents, WhereTold, latest, flushed}
-use Rattle.f2_disk.specs.Faults.{Rose}
 use Rattle.f2_disk.specs.Meter.{Meter, HasFailed}
 use Rattle.f2_disk.proofs.ContentsLaws.{latest_alone, told_same}
 use Rattle.f2_layout.specs.Refusal.{geometry_of}
 use Rattle.f2_layout.specs.declared.geometry.BadGeometry.{BadGeometry}
-use Rattle.f2_mount.specs.Making.{IsNewImage, HasNewImage}
+use Rattle.f2_mount.specs.Making.{HasNewImage}
 use Rattle.f2_script.specs.Words.{IsWord, Number}
 use Rattle.f2_play.specs.declared.status.Status.{Status}
 use Rattle.f2_play.specs.declared.status.Status.TheVariants as status

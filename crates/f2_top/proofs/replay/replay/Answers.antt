@@ -48,4 +48,4 @@ returns-clause-ran g c =
     λ counts. Ran-none _ _ _ _ _ _ taken (inl refl)
 
 pub returns-in-Ok-parse-clause-no_disk : goal.returns-in-Ok-parse-clause-no_disk
-returns-in-Ok-parse-clause-no_disk g c = IsDueLines-no_disk _ _ c.play.ensures.due
+returns-in-Ok-parse-clause-no_disk g c = IsDueLines-no_disk c.in-Ok-parse.lines _ c.play.ensures.due
