@@ -1,0 +1,3 @@
+-- What follows from a base and a node log that were read.
+pub mod Sound
+pub mod Rolled

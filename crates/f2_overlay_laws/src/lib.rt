@@ -1,0 +1,12 @@
+//! Laws of a base and a node log that were read (`f2_recover`, `f2_scan`, `f2_overlay`): an image in which all is right that
+//! was looked at is sound, and its tree has the last mark of each file over the base.
+//!
+//! No program runs this crate: each function has an empty body, and its contract is a law. The statements stand in
+//! `specs/Sound.antt` and `specs/Rolled.antt`.
+#![tactic(auto)]
+
+mod rolled;
+mod sound;
+
+pub use rolled::{marks_are_marked_places, rolled_rows_are_alike};
+pub use sound::all_right_is_sound;
