@@ -8,3 +8,4 @@ pub mod AllRight
 pub mod LastMarks
 pub mod LikeRolls
 pub mod RolledRows
+pub mod ReadTree

@@ -18,6 +18,7 @@ use Rattle.f2_recover.specs.Walking.{IsBaseRead}
 use Rattle.f2_recover.specs.declared.rows.BaseRow.{BaseRow}
 use Rattle.f2_recover.specs.declared.walk.Walk.{Walk}
 use Rattle.f2_recover_laws.specs.Sound.{AreAlike}
+use Rattle.f2_scan.specs.Laws.{HasNoLogFault}
 
 -- a row of the tree is a file as its last mark has it
 pub record IsRollLike (image : Image) (row : Row) (roll : Roll) : Type 0 where
@@ -42,3 +43,7 @@ RolledRowsAreAlike =
 -- there are as many marks as marked blocks of the node log
 abbrev pub MarksAreMarkedPlaces : Type 0
 MarksAreMarkedPlaces = (image : Image) (point : Checkpoint) (base : Rows) (marks : List Mark) → AreMarks image point base marks → length marks ≡ length (marked_places (chain image point))
+
+-- an image whose base was read, and whose node log has none of its faults, has a tree
+abbrev pub TreesAreThere : Type 0
+TreesAreThere = (image : Image) (point : Checkpoint) (walk : Walk) → IsBaseRead image point walk → HasNoLogFault image point → (base : Rows) × ((marks : List Mark) × (IsBase image point base × AreMarks image point base marks))

@@ -8,5 +8,5 @@
 mod rolled;
 mod sound;
 
-pub use rolled::{marks_are_marked_places, rolled_rows_are_alike};
+pub use rolled::{marks_are_marked_places, rolled_rows_are_alike, trees_are_there};
 pub use sound::all_right_is_sound;

@@ -1,5 +1,5 @@
 //! The tree of a base and the marks after it.
-ghost use Rattle.f2_overlay_laws.specs.Rolled.{MarksAreMarkedPlaces, RolledRowsAreAlike};
+ghost use Rattle.f2_overlay_laws.specs.Rolled.{MarksAreMarkedPlaces, RolledRowsAreAlike, TreesAreThere};
 
 /// A row of the tree is the file as its last mark has it, and the base's row where the file has no mark.
 ///
@@ -14,4 +14,12 @@ pub fn rolled_rows_are_alike()
 /// Marks that were the last ones of their files alone would break it: a file that was marked twice has two.
 pub fn marks_are_marked_places()
     ensures { MarksAreMarkedPlaces }
+{}
+
+/// Where a base and its node log were read, the image has a base and marks, so that there is a tree of which it can be asked
+/// whether it fits.
+///
+/// A marked inode of no kind would break it: no row is its mark.
+pub fn trees_are_there()
+    ensures { TreesAreThere }
 {}

@@ -6,3 +6,4 @@ pub mod Depths
 pub mod RightNames
 pub mod FilePages
 pub mod LikeRows
+pub mod ReadBase

@@ -74,3 +74,7 @@ AreAlike image (Some row) (Some base) = IsRowLike image row base
 
 abbrev pub RowsAreAlike : Type 0
 RowsAreAlike = (image : Image) (point : Checkpoint) (walk : Walk) (tree : Rows) → IsBaseRead image point walk → IsBase image point tree → (ino : ℕ) → AreAlike image (map.get tree ino) (map.get walk.rows ino)
+
+-- a base that was read is there
+abbrev pub BasesAreThere : Type 0
+BasesAreThere = (image : Image) (point : Checkpoint) (walk : Walk) → IsBaseRead image point walk → (base : Rows) × IsBase image point base

@@ -6,4 +6,4 @@
 
 mod sound;
 
-pub use sound::{bases_are_right, rows_are_alike};
+pub use sound::{bases_are_right, bases_are_there, rows_are_alike};
