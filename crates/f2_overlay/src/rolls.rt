@@ -98,8 +98,9 @@ impl Rolls {
 
 /// Each file that was marked in the node log, as its last mark has it.
 ///
-/// Each block of the log is looked at once, and of a file's pages those alone whose addresses its mark or a direct node
-/// before it tells. Of the pages' contents at most one is read for each mark. Nothing is written.
+/// The pages of the base are walked once, with each nid that the node address table has room for. Then each block of the log
+/// is looked at once, and of a file's pages those alone whose addresses its mark or a direct node before it tells. Of the
+/// pages' contents at most one is read for each mark. Nothing is written.
 pub fn roll_files<D: Disk>(
     alloc: Global,
     disk: &mut D,
