@@ -1,0 +1,3 @@
+-- How much of an image a tree takes.
+pub mod Sizes
+pub mod Parts
