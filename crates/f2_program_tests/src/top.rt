@@ -31,8 +31,8 @@ last data block|replay|mkfs 128 1;call 1 create /a;call 1 write /a 0 65536 1;cal
 /// and the line that is printed.
 const IMAGES: &str = "as large as the disk|mkfs image 128 1|128|0|ok mkfs 9 30
 smaller than the disk|mkfs image 128 1|130|0|ok mkfs 9 30
-larger than the disk|mkfs image 128 1|100|8|f2n: geometry device 128
-no disk|mkfs image 128 1|0|8|f2n: geometry device 128
+larger than the disk|mkfs image 128 1|100|8|f2n: geometry device 100
+no disk|mkfs image 128 1|0|8|f2n: geometry device 0
 too few blocks|mkfs image 127 1|0|8|f2n: geometry blocks 127
 too many blocks|mkfs image 65537 1|128|8|f2n: geometry blocks 65537
 the most that a word can say|mkfs image 4294967295 1|128|8|f2n: geometry blocks 4294967295

@@ -34,7 +34,7 @@ pub record IsGranted (extent : Extent) (blocks : ℕ) : Type 0 where
 -- sizes that break a limit: one of images, or the device's
 pub data Breaks (extent : Extent) (blocks : ℕ) (limit : Limit) (value : ℕ) : Type 0 where
   own : geometry_of extent ≡ Err record { limit = limit; value = value } → Breaks extent blocks limit value
-  room : geometry_of extent ≡ Ok extent → blocks < extent.blocks → limit ≡ Device → value ≡ extent.blocks → Breaks extent blocks limit value
+  room : geometry_of extent ≡ Ok extent → blocks < extent.blocks → limit ≡ Device → value ≡ blocks → Breaks extent blocks limit value
 
 -- what reads give stays
 abbrev pub ReadsTheSame : Contents → Contents → Type 0

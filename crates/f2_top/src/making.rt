@@ -59,10 +59,11 @@ fn make<D: Disk>(alloc: Global, disk: &mut D, asked: Sizes) -> Result<Vec<u8>, S
     if disk.flush().is_err() {
         return Err(Status::DiskFault);
     }
-    if disk.blocks() < asked.blocks {
+    let blocks = disk.blocks();
+    if blocks < asked.blocks {
         return Err(Status::Geometry {
             limit: Limit::Device,
-            value: asked.blocks,
+            value: blocks,
         });
     }
     let Ok(text) = mkfs_line(alloc, &geometry) else {

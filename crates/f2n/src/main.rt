@@ -4,6 +4,7 @@
 
 use f2_disk::{MemBench, StdSink, StdSource};
 use f2_file_disk::FileDisk;
+use f2_layout::Geometry;
 use f2_model::Meet;
 use f2_top::{Status, run, sizes_asked};
 use std::alloc::AllocError;
@@ -13,12 +14,6 @@ use std::rt::Env;
 use std::sync::Wait;
 use std::thread::Threads;
 use std::{env, io};
-
-/// The fewest blocks of an image, for which a file is made.
-const LEAST_BLOCKS: u32 = 128;
-
-/// The most blocks of an image.
-const MOST_BLOCKS: u32 = 65_536;
 
 /// Workers that don't wait for each other.
 struct NoMeeting;
@@ -38,11 +33,11 @@ fn words<R: Env + AllocGlobal>(rt: &R) -> Result<Vec<String>, AllocError> {
     }
 }
 
-/// The disk of a command. The words `mkfs IMAGE B N` make the file IMAGE as long as an image of B blocks, where there are
-/// such; for other words there is no file.
+/// The disk of a command. The words `mkfs IMAGE B N` make the file IMAGE as long as an image of B blocks, where these
+/// sizes break no limit. With sizes that break one, and for other words, no file is touched.
 fn disk_of_words<R: Files<File = File>>(rt: &R, words: &[String]) -> FileDisk {
     match (words, sizes_asked(words)) {
-        ([_, image, ..], Some(sizes)) if (LEAST_BLOCKS..=MOST_BLOCKS).contains(&sizes.blocks) => {
+        ([_, image, ..], Some(sizes)) if Geometry::new(sizes.blocks, sizes.nat).is_ok() => {
             FileDisk::make(rt, image.as_str(), sizes.blocks)
         }
         _ => FileDisk::none(),
