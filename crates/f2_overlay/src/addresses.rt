@@ -1,7 +1,8 @@
 //! Where the pages of a file stand.
-ghost use Rattle.std.specs.Prelude.{◌≡◌, ◌≤◌, ◌<◌, ◌^◌, ℕ, None, Some, IfNone, IfSome, OnOk, OnErr};
+ghost use Rattle.std.specs.Prelude.{◌≡◌, ◌≤◌, ◌<◌, ◌^◌, ℕ, None, Some, IfNone, IfSome, IfOk, OnOk, OnErr, map as map_list};
 ghost use Rattle.std.specs.FinMap as map;
 
+use f2_recover::PageAt;
 use std::alloc::{AllocError, Global};
 use std::collections::BTreeMap;
 use std::marker::Model;
@@ -58,6 +59,20 @@ impl Addresses {
     {
         let (page, at) = self.pages.last_key_value()?;
         Some((*page, *at))
+    }
+
+    /// The pages with their addresses, rising.
+    pub fn listed(&self, alloc: Global) -> Result<Vec<PageAt>, AllocError>
+        ensures { IfOk result (λ list. list.items ≡ map_list (λ entry. record { page = entry.0; at = entry.1 }) (map.entries self.now)) }
+    {
+        let mut list = Vec::with_capacity(alloc, self.pages.len())?;
+        for (page, at) in &self.pages {
+            list.push(PageAt {
+                page: *page,
+                at: *at,
+            })?;
+        }
+        Ok(list)
     }
 
     /// Sets the address of a page. Only a page that is new takes memory; an error changes nothing.

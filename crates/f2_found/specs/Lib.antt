@@ -1,0 +1,5 @@
+-- The tree of an image as it was found there.
+pub mod Pages
+pub mod Found
+pub mod Made
+pub mod Named

@@ -1,0 +1,39 @@
+//! A tree of a base and of the files that were marked after it.
+ghost use Rattle.std.specs.Prelude.{◌≡◌, List, IfOk};
+ghost use Rattle.f2_image.specs.Images.{Image};
+ghost use Rattle.f2_image.specs.Packs.{Checkpoint};
+ghost use Rattle.f2_image.specs.Bases.{IsBase};
+ghost use Rattle.f2_image.specs.Chains.{AreMarks};
+ghost use Rattle.f2_model.specs.Tree.{Rows};
+ghost use Rattle.f2_model.specs.State.{Mark, rolled};
+ghost use Rattle.f2_overlay.specs.Names.{HasRightMarks};
+ghost use Rattle.f2_overlay.specs.Nodes.{HasRightNids};
+ghost use Rattle.f2_overlay.specs.Rolls.{AreRolls};
+ghost use Rattle.f2_recover.specs.Walking.{IsBaseRead};
+ghost use Rattle.f2_found.specs.Found.{IsFound};
+
+use crate::found::Found;
+use crate::making::make_rows;
+use crate::naming::make_names;
+use f2_layout::Geometry;
+use f2_overlay::Rolls;
+use f2_recover::Walk;
+use std::alloc::{AllocError, Global};
+
+/// The tree of an image whose base and marked files were read: each file as its last mark has it, and all else as the base
+/// has it.
+///
+/// Each nid that the node address table has room for is looked at once, and each name and each address is copied once.
+pub fn put_together(
+    alloc: Global,
+    g: &Geometry,
+    walk: &Walk,
+    rolls: &Rolls,
+) -> Result<Found, AllocError>
+    ensures found { IfOk result (λ found. (image : Image) (point : Checkpoint) (base : Rows) (marks : List Mark) → point.extent ≡ g.now → IsBaseRead image point walk.now → HasRightNids image point
+        → HasRightMarks image point → AreRolls image point walk.now rolls.now → IsBase image point base → AreMarks image point base marks → IsFound image (rolled base marks) found) }
+{
+    let rows = make_rows(alloc, g, walk, rolls)?;
+    let names = make_names(alloc, g, walk, rolls)?;
+    Ok(Found { rows, names })
+}
