@@ -1,5 +1,5 @@
 -- The nodes and the data blocks of a tree, and whether they fit its image.
-use Rattle.std.specs.Prelude.{◌≡◌, ◌⊎◌, ℕ, ◌<◌, ◌≤◌, ⊤, map as map_list}
+use Rattle.std.specs.Prelude.{◌≡◌, ℕ, ◌<◌, ◌≤◌, ⊤}
 use Rattle.std.specs.FinMap as map
 use Rattle.f2_dir.specs.Entries.{Entries}
 use Rattle.f2_format.specs.Geometry.{Extent, node_third, data_third}

@@ -7,7 +7,7 @@ ghost use Rattle.f2_tree_size.specs.Sizes.{blocks_of_entries};
 use crate::first_pages::nodes_of_first;
 use f2_dir::Dir;
 use f2_held::Both;
-use std::alloc::{AllocError, Global};
+use std::alloc::AllocError;
 
 /// The name slots of a dentry block.
 const SLOTS_A_BLOCK: u64 = 214;
@@ -18,7 +18,7 @@ const BYTES_A_SLOT: u64 = 8;
 /// What a directory with these names takes: the blocks that they fill, and the nodes of as many pages.
 ///
 /// The names come in byte order, as they are packed. A name of any length counts, also one that no dentry block has room for.
-pub(crate) fn size_of_directory(alloc: Global, names: &Dir) -> Result<Both, AllocError>
+pub(crate) fn size_of_directory(names: &Dir) -> Result<Both, AllocError>
     ensures nodes { IfOk result (λ size. size.nodes ≡ node_count (range_with_len 0 (blocks_of_entries names.now))) }
     ensures blocks { IfOk result (λ size. size.pages ≡ blocks_of_entries names.now) }
 {

@@ -12,13 +12,13 @@ use f2_found::{Found, FoundPages};
 use f2_held::Both;
 use f2_model::Kind;
 use f2_shape::nodes_of;
-use std::alloc::{AllocError, Global};
+use std::alloc::AllocError;
 
 /// No node and no block.
 const NOTHING: Both = Both { nodes: 0, pages: 0 };
 
 /// What the row of an ino takes, and nothing where there is none.
-pub(crate) fn size_of_row(alloc: Global, found: &Found, ino: u32) -> Result<Both, AllocError>
+pub(crate) fn size_of_row(found: &Found, ino: u32) -> Result<Both, AllocError>
     ensures { IfOk result (λ size. (image : Image) (tree : Rows) → IsFound image tree found.now → IsPartOf tree ino size) }
 {
     let Some(row) = found.rows.get(ino) else {
@@ -27,7 +27,7 @@ pub(crate) fn size_of_row(alloc: Global, found: &Found, ino: u32) -> Result<Both
     match row.kind {
         Kind::Regular => size_of_file(&row.pages),
         Kind::Directory => match found.names.get(ino) {
-            Some(names) => size_of_directory(alloc, names),
+            Some(names) => size_of_directory(names),
             None => Ok(NOTHING),
         },
     }

@@ -7,7 +7,7 @@ ghost use Rattle.f2_tree_size.specs.Sizes.{IsSizeOf};
 
 use crate::rows::size_of_row;
 use f2_found::Found;
-use std::alloc::{AllocError, Global};
+use std::alloc::AllocError;
 
 /// How many nodes and data blocks a tree takes.
 #[derive(Clone, Copy, Debug, PartialEq, Eq)]
@@ -21,14 +21,14 @@ pub struct TreeSize {
 /// names fill and the nodes of these.
 ///
 /// Each row, each page and each name is looked at once.
-pub fn size_of_tree(alloc: Global, found: &Found) -> Result<TreeSize, AllocError>
+pub fn size_of_tree(found: &Found) -> Result<TreeSize, AllocError>
     ensures { IfOk result (λ size. (image : Image) (tree : Rows) → IsFound image tree found.now → IsSizeOf tree size) }
 {
     let inos = found.rows.inos()?;
     let mut nodes = 0;
     let mut blocks = 0;
     for ino in &inos {
-        let size = size_of_row(alloc, found, *ino)?;
+        let size = size_of_row(found, *ino)?;
         nodes += u128::from(size.nodes);
         blocks += u128::from(size.pages);
     }
