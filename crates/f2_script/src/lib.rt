@@ -38,5 +38,7 @@ pub use laws::{one_fault, one_reading, reads_back};
 pub use line_texts::line_text;
 pub use reply_texts::reply_text;
 pub use script::{Grammar, Line, Lines, ScriptFault};
+pub use texts::{push_argument, push_name};
 pub use tree_texts::tree_text;
+pub use weights::weight_from;
 pub use words::number;

@@ -9,7 +9,7 @@ use std::alloc::AllocError;
 const PAGE: u64 = 4096;
 
 /// The sum, over bytes that stand from an offset on, of the byte times its offset plus 1, modulo 2^64.
-fn weight_from(first: u64, bytes: &[u8]) -> u64
+pub fn weight_from(first: u64, bytes: &[u8]) -> u64
     requires { first + length bytes.now < 2 ^ 64 }
     ensures { result ≡ bytes_weight first bytes.now % 2 ^ 64 }
 {
