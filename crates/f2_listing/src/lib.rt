@@ -4,7 +4,7 @@
 //! `f2_script`'s `tree_spelling`. Memory is taken for the text and for the names of the directories on the way to a row; a
 //! page is read into one block and then forgotten.
 //!
-//! Where the pages of a tree have to stand so that they can be read is defined in `specs/Places.antt`.
+//! What a tree is found as, and where its pages stand, is defined in `f2_found`.
 #![tactic(auto)]
 
 mod faults;

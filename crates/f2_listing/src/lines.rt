@@ -3,12 +3,12 @@ ghost use Rattle.std.specs.Prelude.{◌≡◌, ◌++◌, Err, IfOk, OnOk, None, 
 ghost use Rattle.std.specs.FinMap as map;
 ghost use Rattle.f2_disk.specs.Meter.{HasFailed};
 ghost use Rattle.f2_found.specs.Found.{IsFound, IsFoundRow};
+ghost use Rattle.f2_found.specs.Places.{AreBelow, IsWithinBlocks};
 ghost use Rattle.f2_image.specs.Images.{Image};
 ghost use Rattle.f2_model.specs.Tree.{Rows};
 ghost use Rattle.f2_model.specs.declared.rows.Row.{Row};
 ghost use Rattle.f2_recover.specs.Told.{Tells, OnlyReads};
 ghost use Rattle.f2_script.specs.Trees.{kind_text, shown_path, lines_below, tree_spelling};
-ghost use Rattle.f2_listing.specs.Places.{AreBelow, IsWithinBlocks};
 
 use crate::faults::ListFault;
 use crate::weights::weight;

@@ -2,11 +2,11 @@
 ghost use Rattle.std.specs.Prelude.{◌≡◌, Err, IfOk};
 ghost use Rattle.f2_disk.specs.Meter.{HasFailed};
 ghost use Rattle.f2_found.specs.Pages.{AreAt, AreInOrder};
+ghost use Rattle.f2_found.specs.Places.{AreBelow};
 ghost use Rattle.f2_image.specs.Images.{Image};
 ghost use Rattle.f2_model.specs.Content.{PageMap};
 ghost use Rattle.f2_recover.specs.Told.{Tells, OnlyReads};
 ghost use Rattle.f2_script.specs.Trees.{weight_of};
-ghost use Rattle.f2_listing.specs.Places.{AreBelow};
 
 use crate::faults::ListFault;
 use f2_disk::{Block, Disk};
