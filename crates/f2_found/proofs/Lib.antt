@@ -6,5 +6,6 @@ pub mod Copies
 pub mod RowSteps
 pub mod NameSteps
 pub mod Trees
+pub mod Places
 pub mod TreeRows
 pub mod TreeNames

@@ -18,7 +18,7 @@ use Rattle.f2_image.specs.Reached.{IsMarkedAt, marked}
 use Rattle.f2_overlay.specs.Lasts.{last_mark_before}
 use Rattle.f2_overlay.specs.Names.{HasRightMarks}
 use Rattle.f2_overlay.specs.Nodes.{HasRightNids}
-use Rattle.f2_overlay.specs.Rolls.{IsRoll, IsRollAt, AreRolls}
+use Rattle.f2_overlay.specs.Rolls.{IsRoll, IsRollAt, AreRolls, HasRightPages}
 use Rattle.f2_overlay.specs.declared.rolls.Roll.{Roll}
 use Rattle.f2_overlay.proofs.Based.{nid_within, row_of}
 use Rattle.f2_overlay.proofs.LastPlaces.{last_is}
@@ -36,6 +36,7 @@ pub record IsTree (image : Image) (point : Checkpoint) (walk : Walk) (rolls : Ro
   pub read : IsBaseRead image point walk
   pub nids : HasRightNids image point
   pub right : HasRightMarks image point
+  pub pages : HasRightPages image point
   pub are : AreRolls image point walk rolls
   pub is_base : IsBase image point base
   pub are_marks : AreMarks image point base marks

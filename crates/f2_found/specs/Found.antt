@@ -1,6 +1,5 @@
 -- The tree of an image as it was found: its rows with the addresses of their pages, and the names of its directories.
 use Rattle.std.specs.Prelude.{◌≡◌, ◌≢◌, ℕ, List, Option, Some, None}
-use Rattle.std.specs.Ordering.{nat_cmp}
 use Rattle.std.specs.FinMap as map
 use Rattle.f2_dir.specs.Entries.{Entries}
 use Rattle.f2_image.specs.Images.{Image}

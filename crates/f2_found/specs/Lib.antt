@@ -1,5 +1,6 @@
 -- The tree of an image as it was found there.
 pub mod Pages
 pub mod Found
+pub mod Places
 pub mod Made
 pub mod Named

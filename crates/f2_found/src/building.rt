@@ -8,9 +8,10 @@ ghost use Rattle.f2_model.specs.Tree.{Rows};
 ghost use Rattle.f2_model.specs.State.{Mark, rolled};
 ghost use Rattle.f2_overlay.specs.Names.{HasRightMarks};
 ghost use Rattle.f2_overlay.specs.Nodes.{HasRightNids};
-ghost use Rattle.f2_overlay.specs.Rolls.{AreRolls};
+ghost use Rattle.f2_overlay.specs.Rolls.{AreRolls, HasRightPages};
 ghost use Rattle.f2_recover.specs.Walking.{IsBaseRead};
 ghost use Rattle.f2_found.specs.Found.{IsFound};
+ghost use Rattle.f2_found.specs.Places.{IsWithinBlocks};
 
 use crate::found::Found;
 use crate::making::make_rows;
@@ -31,7 +32,8 @@ pub fn put_together(
     rolls: &Rolls,
 ) -> Result<Found, AllocError>
     ensures found { IfOk result (λ found. (image : Image) (point : Checkpoint) (base : Rows) (marks : List Mark) → point.extent ≡ g.now → IsBaseRead image point walk.now → HasRightNids image point
-        → HasRightMarks image point → AreRolls image point walk.now rolls.now → IsBase image point base → AreMarks image point base marks → IsFound image (rolled base marks) found) }
+        → HasRightMarks image point → HasRightPages image point → AreRolls image point walk.now rolls.now → IsBase image point base → AreMarks image point base marks → IsFound image (rolled base marks) found) }
+    ensures within { IfOk result (λ found. IsWithinBlocks g.now.blocks found) }
 {
     let rows = make_rows(alloc, g, walk, rolls)?;
     let names = make_names(alloc, g, walk, rolls)?;

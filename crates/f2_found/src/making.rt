@@ -15,26 +15,26 @@ use f2_recover::{File, Walk};
 use std::alloc::{AllocError, Global};
 
 /// The row of a file that was marked.
-fn rolled_row(alloc: Global, roll: &Roll) -> Result<FoundRow, AllocError>
-    ensures { IfOk result (λ row. IsOfRoll roll.now row) }
+fn rolled_row(alloc: Global, g: &Geometry, roll: &Roll) -> Result<FoundRow, AllocError>
+    ensures { IfOk result (λ row. IsOfRoll g.now.blocks roll.now row) }
 {
     let list = roll.pages.listed(alloc)?;
     Ok(FoundRow {
         kind: Kind::Regular,
         size: roll.size,
-        pages: copied_pages(alloc, &list)?,
+        pages: copied_pages(alloc, &list, g.blocks())?,
     })
 }
 
 /// The row of a file or a directory of the base.
-fn base_row(alloc: Global, file: &File) -> Result<FoundRow, AllocError>
-    ensures { IfOk result (λ row. IsOfFile file.now row) }
+fn base_row(alloc: Global, g: &Geometry, file: &File) -> Result<FoundRow, AllocError>
+    ensures { IfOk result (λ row. IsOfFile g.now.blocks file.now row) }
 {
     match file.kind {
         Kind::Regular => Ok(FoundRow {
             kind: Kind::Regular,
             size: file.size,
-            pages: copied_pages(alloc, &file.nodes.list)?,
+            pages: copied_pages(alloc, &file.nodes.list, g.blocks())?,
         }),
         Kind::Directory => Ok(FoundRow {
             kind: Kind::Directory,
@@ -47,17 +47,18 @@ fn base_row(alloc: Global, file: &File) -> Result<FoundRow, AllocError>
 /// The row of an ino, or `None` where neither the marks nor the base have it.
 fn row_of(
     alloc: Global,
+    g: &Geometry,
     walk: &Walk,
     rolls: &Rolls,
     ino: u32,
 ) -> Result<Option<FoundRow>, AllocError>
-    ensures { IfOk result (λ row. IsMade (map.get rolls.now ino) (map.get walk.now.rows ino) row) }
+    ensures { IfOk result (λ row. IsMade g.now.blocks (map.get rolls.now ino) (map.get walk.now.rows ino) row) }
 {
     if let Some(roll) = rolls.get(ino) {
-        return Ok(Some(rolled_row(alloc, roll)?));
+        return Ok(Some(rolled_row(alloc, g, roll)?));
     }
     match walk.rows.get(ino) {
-        Some(row) => Ok(Some(base_row(alloc, &row.file)?)),
+        Some(row) => Ok(Some(base_row(alloc, g, &row.file)?)),
         None => Ok(None),
     }
 }
@@ -69,11 +70,11 @@ pub(crate) fn make_rows(
     walk: &Walk,
     rolls: &Rolls,
 ) -> Result<FoundRows, AllocError>
-    ensures { IfOk result (λ rows. AreMadeTo rolls.now walk.now.rows (nid_limit g.now) rows) }
+    ensures { IfOk result (λ rows. AreMadeTo g.now.blocks rolls.now walk.now.rows (nid_limit g.now) rows) }
 {
     let mut rows = FoundRows::new(alloc);
     for ino in 0..nid_count(g) {
-        if let Some(row) = row_of(alloc, walk, rolls, ino)? {
+        if let Some(row) = row_of(alloc, g, walk, rolls, ino)? {
             rows.put(ino, row)?;
         }
     }

@@ -6,15 +6,16 @@ use Rattle.f2_found.proofs.making.make_rows.Goals as goal
 use Rattle.f2_found.proofs.making.make_rows.Goals.{in-Some+in_ok-put, in_default}
 
 pub loop-ino-init : goal.loop-ino-init
-loop-ino-init c = made_none c.args.rolls.now c.args.walk.now.rows _ c.new-rows.ensures
+loop-ino-init c = made_none c.args.g.now.blocks c.args.rolls.now c.args.walk.now.rows _ c.new-rows.ensures
 
 pub loop-ino-preserved : goal.loop-ino-preserved
 loop-ino-preserved c =
+    let blocks = c.args.g.now.blocks in
     let rolls = c.args.rolls.now in
     let base = c.args.walk.now.rows in
     let ino = c.loop-ino.ino in
     elim c.match-branch-2.branch [
       | in-Some+in_ok-put w ↦
-          made_with rolls base ino c.loop-ino.rows _ c.loop-ino.invariant w.in-Some.row (subst (IsMade (map.get rolls ino) (map.get base ino)) w.in-Some.is c.in_ok-row.ensures) (w.rows-is ∙ w.in_ok-put.ensures.ok)
-      | in_default w ↦ made_without rolls base ino c.loop-ino.rows _ c.loop-ino.invariant (subst (IsMade (map.get rolls ino) (map.get base ino)) w.in_default.is c.in_ok-row.ensures) w.rows-is
+          made_with blocks rolls base ino c.loop-ino.rows _ c.loop-ino.invariant w.in-Some.row (subst (IsMade blocks (map.get rolls ino) (map.get base ino)) w.in-Some.is c.in_ok-row.ensures) (w.rows-is ∙ w.in_ok-put.ensures.ok)
+      | in_default w ↦ made_without blocks rolls base ino c.loop-ino.rows _ c.loop-ino.invariant (subst (IsMade blocks (map.get rolls ino) (map.get base ino)) w.in_default.is c.in_ok-row.ensures) w.rows-is
     ]
