@@ -4,3 +4,4 @@ pub mod Counts
 pub mod Scanned
 pub mod Fitting
 pub mod Standing
+pub mod Within

@@ -29,9 +29,9 @@ pub record IsLogRight (image : Image) (point : Checkpoint) (walk : Walk) : Type 
   pub pages : HasRightPages image point
 
 -- the same, and these are the files that were marked
-pub record IsRolledUp (image : Image) (point : Checkpoint) (walk : Walk) (rolls : map.FinMap nat_cmp Roll) : Type 0 where
+pub record IsRolledUp (image : Image) (point : Checkpoint) (walk : Walk) (files : map.FinMap nat_cmp Roll) : Type 0 where
   pub right : IsLogRight image point walk
-  pub rolls : AreRolls image point walk rolls
+  pub rolls : AreRolls image point walk files
 
 -- an image means a base and marks, and their tree was found in it
 pub record IsTreeOf (image : Image) (point : Checkpoint) (tree : Found) (base : Rows) (marks : List Mark) : Type 0 where

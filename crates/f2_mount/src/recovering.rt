@@ -4,6 +4,7 @@ ghost use Rattle.f2_disk.specs.Meter.{HasFailed};
 ghost use Rattle.f2_format.specs.Geometry.{is_in_node};
 ghost use Rattle.f2_image.specs.Images.{Image};
 ghost use Rattle.f2_image.specs.Packs.{Checkpoint, IsCheckpoint};
+ghost use Rattle.f2_found.specs.Places.{IsWithinBlocks};
 ghost use Rattle.f2_recover.specs.Faults.{IsRightFault};
 ghost use Rattle.f2_recover.specs.Told.{Tells, OnlyReads};
 ghost use Rattle.f2_start.specs.Starts.{IsStanding, IsStartOf};
@@ -39,6 +40,7 @@ pub struct Recovered {
 /// After any error the disk holds what it held, so the call can be made again.
 pub fn recover_image<D: Disk>(alloc: Global, disk: &mut D) -> Result<Recovered, MountFault>
     ensures recovered { IfOk result (λ recovered. (image : Image) → Tells (D.contents disk.old) image → IsRecovered image recovered) }
+    ensures fits { IfOk result (λ recovered. IsWithinBlocks (D.meter disk.old).blocks recovered.tree) }
     ensures fault { IfErr result (λ fault. (image : Image) → Tells (D.contents disk.old) image → IsStanding image fault) }
     ensures reads { OnlyReads (D.contents disk.old) (D.meter disk.old) (D.contents disk.new) (D.meter disk.new) }
     ensures cause { result ≡ Err MountFault.Read → HasFailed (D.meter disk.old) (D.meter disk.new) }
@@ -56,6 +58,7 @@ fn recover_from<D: Disk>(
     requires device { start.now.geometry.blocks ≤ (D.meter disk.old).blocks }
     requires log { IsTrue (is_in_node start.now.geometry start.now.pack.head.log_start) }
     ensures recovered { IfOk result (λ recovered. (image : Image) (point : Checkpoint) → Tells (D.contents disk.old) image → IsCheckpoint image point → IsStartOf start.now point → IsRecovered image recovered) }
+    ensures fits { IfOk result (λ recovered. IsWithinBlocks start.now.geometry.blocks recovered.tree) }
     ensures fault { IfErr result (λ fault. (image : Image) (point : Checkpoint) → Tells (D.contents disk.old) image → IsCheckpoint image point → IsStartOf start.now point → IsRightFault image point fault) }
     ensures reads { OnlyReads (D.contents disk.old) (D.meter disk.old) (D.contents disk.new) (D.meter disk.new) }
     ensures cause { result ≡ Err MountFault.Read → HasFailed (D.meter disk.old) (D.meter disk.new) }

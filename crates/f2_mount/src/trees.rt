@@ -4,6 +4,7 @@ ghost use Rattle.f2_image.specs.Images.{Image};
 ghost use Rattle.f2_image.specs.Packs.{Checkpoint, IsCheckpoint};
 ghost use Rattle.f2_model.specs.Tree.{Rows};
 ghost use Rattle.f2_model.specs.State.{Mark};
+ghost use Rattle.f2_found.specs.Places.{IsWithinBlocks};
 ghost use Rattle.f2_recover.specs.Faults.{IsRightFault};
 ghost use Rattle.f2_mount.specs.Recovering.{IsRolledUp, IsTreeOf};
 
@@ -23,10 +24,11 @@ pub(crate) fn find_tree(
 ) -> Result<Found, MountFault>
     ensures tree { IfOk result (λ tree. (image : Image) (point : Checkpoint) → IsCheckpoint image point → point.extent ≡ g.now → IsRolledUp image point walk.now rolls.now
         → (base : Rows) × ((marks : List Mark) × IsTreeOf image point tree base marks)) }
+    ensures within { IfOk result (λ tree. IsWithinBlocks g.now.blocks tree) }
     ensures fault { IfErr result (λ fault. (image : Image) (point : Checkpoint) → IsCheckpoint image point → point.extent ≡ g.now → IsRolledUp image point walk.now rolls.now → IsRightFault image point fault) }
     ensures no_read { result ≢ Err MountFault.Read }
 {
     let tree = put_together(alloc, g, walk, rolls)?;
-    check_room(alloc, g, &tree)?;
+    check_room(g, &tree)?;
     Ok(tree)
 }

@@ -1,6 +1,7 @@
 use Rattle.std.proofs.lemmas.Result.{IfOk-weaker, IfErr-weaker}
 use Rattle.f2_recover.proofs.Telling.{tells_on}
 use Rattle.f2_mount.proofs.Standing.{stands}
+use Rattle.f2_mount.proofs.Within.{within_more}
 use Rattle.f2_mount.proofs.recovering.recover_image.Goals as goal
 
 pub returns-clause-recovered : goal.returns-clause-recovered
@@ -18,3 +19,7 @@ returns-clause-fault g c =
     let start = c.in_ok-start.ensures.start image tells in
     stands image start.0 start.1.0 fault (is image start.0 (tells_on _ _ image c.in_ok-start.ensures.reads.kept tells) start.1.0 start.1.1))
     c.recover_from.ensures.fault
+
+pub returns-clause-fits : goal.returns-clause-fits
+returns-clause-fits g c =
+    IfOk-weaker c.recover_from.result _ _ (λ recovered within. within_more _ _ recovered.tree c.in_ok-start.ensures.fits within) c.recover_from.ensures.fits
