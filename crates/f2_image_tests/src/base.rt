@@ -1,7 +1,8 @@
 //! The base of an image.
 
 use crate::images::{
-    Bound, FILE, FileAt, NAMES, put, put_bare_inode, put_file, put_names, put_table, small_image,
+    Bound, FILE, FileAt, NAMES, put, put_bare_inode, put_deep, put_file, put_names, put_table,
+    small_image,
 };
 use f2_bytes::put16;
 use f2_disk::{Disk, MemDisk};
@@ -50,10 +51,12 @@ enum Flaw {
     WrongInode,
     WrongDentry,
     LongJournal,
+    RootFile,
+    TooDeep,
 }
 
 /// Each flaw, and what is told of it.
-const FLAWS: [(Flaw, BadImage); 13] = [
+const FLAWS: [(Flaw, BadImage); 15] = [
     (Flaw::SharedPage, BadImage::Shared { at: 40 }),
     (Flaw::UnreachedNid, BadImage::BadNat { nid: 9 }),
     (Flaw::NodeNowhere, BadImage::BadNat { nid: 7 }),
@@ -67,6 +70,8 @@ const FLAWS: [(Flaw, BadImage); 13] = [
     (Flaw::WrongInode, BadImage::BadInode { at: 11 }),
     (Flaw::WrongDentry, BadImage::DentFault { at: 42 }),
     (Flaw::LongJournal, BadImage::Journal { count: 39 }),
+    (Flaw::RootFile, BadImage::BadTree { ino: 3 }),
+    (Flaw::TooDeep, BadImage::BadTree { ino: 19 }),
 ];
 
 /// Puts a flaw into the small image.
@@ -105,6 +110,18 @@ fn spoil(alloc: Global, disk: &mut MemDisk, flaw: Flaw) -> Result<(), Fail> {
             put16(&mut summary, 3584, 39);
             put(disk, 3, &summary)
         }
+        Flaw::RootFile => put_file(
+            disk,
+            FileAt {
+                at: 10,
+                ino: 3,
+                size: 0,
+                pages: [0, 0],
+                direct: 0,
+                ..FILE
+            },
+        ),
+        Flaw::TooDeep => put_deep(alloc, disk),
         other => misname(alloc, disk, other),
     }
 }

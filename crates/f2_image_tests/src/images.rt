@@ -261,3 +261,30 @@ fn put_directories(disk: &mut MemDisk) -> Result<(), Fail> {
         },
     )
 }
+
+/// Puts sixteen directories below the root, each but the first in the one before it, from ino 4 on.
+pub(crate) fn put_deep(alloc: Global, disk: &mut MemDisk) -> Result<(), Fail> {
+    let mut table = [(0, 0); 17];
+    for level in 0..17u32 {
+        let ino = 3 + level;
+        put_file(
+            disk,
+            FileAt {
+                at: 10 + level,
+                ino,
+                kind: Kind::Directory,
+                size: 4096,
+                pages: [40 + level, 0],
+                direct: 0,
+            },
+        )?;
+        let below = Bound {
+            name: b"d",
+            ino: ino + 1,
+            kind: Kind::Directory,
+        };
+        put_name(alloc, disk, 40 + level, below)?;
+        table[level as usize] = (ino, 10 + level);
+    }
+    put_table(disk, &table)
+}

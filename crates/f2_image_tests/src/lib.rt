@@ -8,4 +8,8 @@ mod base;
 #[cfg(test)]
 mod images;
 #[cfg(test)]
+mod logs;
+#[cfg(test)]
+mod recovered;
+#[cfg(test)]
 mod start;
