@@ -4,8 +4,9 @@ use Rattle.f2_layout.specs.declared.geometry.Limit.{Limit}
 use Rattle.f2_script.specs.declared.script.Line.{Line}
 use Rattle.f2_script.specs.declared.script.Grammar.{Grammar}
 use Rattle.f2_script.specs.Grammar.{IsTooLong, Spells, IsFirstFault}
+use Rattle.f2_recover.specs.declared.faults.BadImage as image
 use Rattle.f2_play.specs.declared.status.Status.{Status}
-use Rattle.f2_play.specs.declared.status.Status.TheVariants.{Done, Usage, TooLong, Script, SourceFault, SinkFault, DiskFault, Geometry, Memory}
+use Rattle.f2_play.specs.declared.status.Status.TheVariants.{Done, Usage, TooLong, Script, SourceFault, SinkFault, DiskFault, BadImage, Geometry, Memory}
 use Rattle.f2_play.specs.Scripts.{BreaksLimit}
 
 -- the statuses that no bytes are due
@@ -49,3 +50,4 @@ pub record IsDue (grammar : Grammar) (bytes : List ℕ) (status : Status) : Type
   pub only_broken : (limit : Limit) (value : ℕ) → status ≡ Geometry limit value → IsBroken grammar bytes limit value
   pub never : ¬ (status ≡ Usage)
   pub never_disk : ¬ (status ≡ DiskFault)
+  pub never_image : (bad : image.BadImage) → ¬ (status ≡ BadImage bad)

@@ -2,8 +2,10 @@
 use Rattle.std.specs.Prelude.{ℕ, List, [], ◌∷◌, ◌++◌, codes, decimal}
 use Rattle.f2_layout.specs.declared.geometry.Limit.{Limit}
 use Rattle.f2_layout.specs.declared.geometry.Limit.TheVariants.{Blocks, Nat, Zones, Nids, Device}
+use Rattle.f2_recover.specs.Faults as bad_image
+use Rattle.f2_recover.specs.declared.faults.BadImage as image
 use Rattle.f2_play.specs.declared.status.Status.{Status}
-use Rattle.f2_play.specs.declared.status.Status.TheVariants.{Done, Usage, TooLong, Script, SourceFault, SinkFault, DiskFault, Geometry, Memory}
+use Rattle.f2_play.specs.declared.status.Status.TheVariants.{Done, Usage, TooLong, Script, SourceFault, SinkFault, DiskFault, BadImage, Geometry, Memory}
 
 -- the exit status of the program
 abbrev pub number_of : Status → ℕ
@@ -14,6 +16,7 @@ number_of (Script line) = 3
 number_of SourceFault = 4
 number_of SinkFault = 5
 number_of DiskFault = 6
+number_of (BadImage bad) = 7
 number_of (Geometry limit value) = 8
 number_of Memory = 9
 
@@ -33,6 +36,27 @@ numbered_line head number = head ++ (decimal number ++ 10 ∷ [])
 abbrev pub limit_head : Limit → List ℕ
 limit_head limit = codes "f2n: geometry " ++ (limit_word limit ++ 32 ∷ [])
 
+-- the word for a condition of an image
+abbrev pub bad_image_word : image.BadImage → List ℕ
+bad_image_word image.TheVariants.BadSuper = codes "badsuper"
+bad_image_word image.TheVariants.NoCheckpoint = codes "nocheckpoint"
+bad_image_word (image.TheVariants.VersionEnd version) = codes "versionend"
+bad_image_word (image.TheVariants.Journal count) = codes "journal"
+bad_image_word (image.TheVariants.BadNat nid) = codes "badnat"
+bad_image_word (image.TheVariants.BadInode at) = codes "badinode"
+bad_image_word (image.TheVariants.DentFault at) = codes "dentfault"
+bad_image_word (image.TheVariants.ChainLong at) = codes "chainlong"
+bad_image_word (image.TheVariants.OutOfZone at) = codes "outofzone"
+bad_image_word (image.TheVariants.Shared at) = codes "shared"
+bad_image_word (image.TheVariants.Conflict ino) = codes "conflict"
+bad_image_word (image.TheVariants.NoParent ino) = codes "noparent"
+bad_image_word (image.TheVariants.BadTree ino) = codes "badtree"
+bad_image_word (image.TheVariants.TooFull limit) = codes "toofull"
+
+-- what stands before the number in the line of a condition of an image
+abbrev pub bad_image_head : image.BadImage → List ℕ
+bad_image_head bad = codes "f2n: badimage " ++ (bad_image_word bad ++ 32 ∷ [])
+
 -- the line that is printed last, where the status has one
 abbrev pub last_line : Status → List ℕ
 last_line Done = []
@@ -42,6 +66,7 @@ last_line (Script line) = numbered_line (codes "f2n: script line ") line
 last_line SourceFault = []
 last_line SinkFault = []
 last_line DiskFault = codes "f2n: diskfault" ++ 10 ∷ []
+last_line (BadImage bad) = numbered_line (bad_image_head bad) (bad_image.number_of bad)
 last_line (Geometry limit value) = numbered_line (limit_head limit) value
 last_line Memory = []
 
@@ -54,5 +79,6 @@ IsSilent (Script line) = ⊥
 IsSilent SourceFault = Unit {0}
 IsSilent SinkFault = Unit {0}
 IsSilent DiskFault = ⊥
+IsSilent (BadImage bad) = ⊥
 IsSilent (Geometry limit value) = ⊥
 IsSilent Memory = Unit {0}

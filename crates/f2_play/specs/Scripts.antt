@@ -9,7 +9,7 @@ use Rattle.f2_script.specs.declared.script.Line.{Line}
 use Rattle.f2_script.specs.declared.script.Line.TheVariants.{Skipped, Mkfs}
 use Rattle.f2_script.specs.Grammar.{IsTooLong, Spells, IsFirstFault}
 use Rattle.f2_play.specs.declared.status.Status.{Status}
-use Rattle.f2_play.specs.declared.status.Status.TheVariants.{Done, Usage, TooLong, Script, SourceFault, SinkFault, DiskFault, Geometry, Memory}
+use Rattle.f2_play.specs.declared.status.Status.TheVariants.{Done, Usage, TooLong, Script, SourceFault, SinkFault, DiskFault, BadImage, Geometry, Memory}
 use Rattle.f2_play.specs.Parts.{Part, text_of}
 use Rattle.f2_play.specs.Lines.{PlaysLines, PlaysMkfs, granted}
 use Rattle.f2_play.specs.Faults.{AreCounted, nothing_planned}
@@ -79,6 +79,7 @@ Prints scope More bytes Usage text = ⊥
 Prints scope More bytes SourceFault text = ⊥
 Prints scope More bytes SinkFault text = ⊥
 Prints scope More bytes DiskFault text = ⊥
+Prints scope More bytes (BadImage bad) text = ⊥
 
 -- all that went out: what the lines printed, and the last line of the status
 pub record Tells (scope : Scope) (More : Status → List Line → List Part → Type 0) (bytes : List ℕ) (status : Status) (out : List ℕ) : Type 0 where

@@ -9,4 +9,4 @@
 
 mod status;
 
-pub use status::{Status, limit_head};
+pub use status::{Status, bad_image_head, bad_image_number, limit_head};

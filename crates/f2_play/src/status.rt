@@ -1,9 +1,11 @@
 //! How a run ends.
 ghost use Rattle.std.specs.Prelude.{◌≡◌};
 ghost use Rattle.f2_play.specs.declared.status.Status.TheVariants.{Memory};
-ghost use Rattle.f2_play.specs.Endings.{number_of, limit_head as head_of_limit};
+ghost use Rattle.f2_recover.specs.Faults.{number_of as number_of_bad_image};
+ghost use Rattle.f2_play.specs.Endings.{number_of, bad_image_head as head_of_bad_image, limit_head as head_of_limit};
 
 use f2_layout::Limit;
+use f2_recover::BadImage;
 use std::alloc::AllocError;
 
 /// How a run ended.
@@ -23,6 +25,8 @@ pub enum Status {
     SinkFault,
     /// A call of the disk failed.
     DiskFault,
+    /// The image stands for no tree: this condition stands in it.
+    BadImage(BadImage),
     /// The sizes of a `mkfs` line, or of the command `mkfs`, break this limit, by this number.
     Geometry { limit: Limit, value: u32 },
     /// Memory was refused; the line that it was refused to printed nothing.
@@ -50,6 +54,7 @@ impl Status {
             Status::SourceFault => 4,
             Status::SinkFault => 5,
             Status::DiskFault => 6,
+            Status::BadImage(_) => 7,
             Status::Geometry { .. } => 8,
             Status::Memory => 9,
         }
@@ -66,5 +71,48 @@ pub fn limit_head(limit: Limit) -> &'static [u8]
         Limit::Zones => b"f2n: geometry zones ",
         Limit::Nids => b"f2n: geometry nids ",
         Limit::Device => b"f2n: geometry device ",
+    }
+}
+
+/// What stands before the number in the line of a condition of an image.
+pub fn bad_image_head(bad: &BadImage) -> &'static [u8]
+    ensures { result.now ≡ head_of_bad_image bad.now }
+{
+    match bad {
+        BadImage::BadSuper => b"f2n: badimage badsuper ",
+        BadImage::NoCheckpoint => b"f2n: badimage nocheckpoint ",
+        BadImage::VersionEnd { .. } => b"f2n: badimage versionend ",
+        BadImage::Journal { .. } => b"f2n: badimage journal ",
+        BadImage::BadNat { .. } => b"f2n: badimage badnat ",
+        BadImage::BadInode { .. } => b"f2n: badimage badinode ",
+        BadImage::DentFault { .. } => b"f2n: badimage dentfault ",
+        BadImage::ChainLong { .. } => b"f2n: badimage chainlong ",
+        BadImage::OutOfZone { .. } => b"f2n: badimage outofzone ",
+        BadImage::Shared { .. } => b"f2n: badimage shared ",
+        BadImage::Conflict { .. } => b"f2n: badimage conflict ",
+        BadImage::NoParent { .. } => b"f2n: badimage noparent ",
+        BadImage::BadTree { .. } => b"f2n: badimage badtree ",
+        BadImage::TooFull { .. } => b"f2n: badimage toofull ",
+    }
+}
+
+/// The number that is told of a condition of an image.
+pub fn bad_image_number(bad: &BadImage) -> u64
+    ensures { result ≡ number_of_bad_image bad.now }
+{
+    match bad {
+        BadImage::BadSuper | BadImage::NoCheckpoint => 0,
+        BadImage::VersionEnd { version } => *version,
+        BadImage::Journal { count } => u64::from(*count),
+        BadImage::BadNat { nid } => u64::from(*nid),
+        BadImage::BadInode { at }
+        | BadImage::DentFault { at }
+        | BadImage::ChainLong { at }
+        | BadImage::OutOfZone { at }
+        | BadImage::Shared { at } => u64::from(*at),
+        BadImage::Conflict { ino } | BadImage::NoParent { ino } | BadImage::BadTree { ino } => {
+            u64::from(*ino)
+        }
+        BadImage::TooFull { limit } => u64::from(*limit),
     }
 }

@@ -27,8 +27,8 @@ refused creates|replay|mkfs 128 1;call 1 create /a//b;call 1 create /;call 1 cre
 refused writes|replay|mkfs 128 1;call 1 create /a;call 1 write /a//b 0 1 1;call 1 write / 0 1 1;call 1 write /b 0 1 1;call 1 write /a/b 0 1 1;call 1 write /a 3780608 1 1;call 1 write /a 18446744073709551615 1 1|0|ok mkfs 9 30;ok;badname;isdir;noent;notdir;toobig;toobig
 last data block|replay|mkfs 128 1;call 1 create /a;call 1 write /a 0 65536 1;call 1 write /a 61440 57344 1;call 1 write /a 3776512 1 1;call 1 write /a 0 65536 1|0|ok mkfs 9 30;ok;ok;ok;nospace data 31 30;ok";
 
-/// In each line a name, the words of a command that makes an image, the blocks of its disk, the number that it ends with,
-/// and the line that is printed.
+/// In each line a name, the words of a command on an image, the blocks of its disk, which are blank, the number that it ends
+/// with, and the line that is printed.
 const IMAGES: &str = "as large as the disk|mkfs image 128 1|128|0|ok mkfs 9 30
 smaller than the disk|mkfs image 128 1|130|0|ok mkfs 9 30
 larger than the disk|mkfs image 128 1|100|8|f2n: geometry device 100
@@ -43,7 +43,11 @@ too few nids|mkfs image 2048 1|128|8|f2n: geometry nids 455
 a leading zero|mkfs image 0128 1|128|1|f2n: usage
 a sign|mkfs image 128 +1|128|1|f2n: usage
 no sizes|mkfs image|128|1|f2n: usage
-one word more|mkfs image 128 1 1|128|1|f2n: usage";
+one word more|mkfs image 128 1 1|128|1|f2n: usage
+no image|tree image|128|7|f2n: badimage badsuper 0
+no block of an image|tree image|0|7|f2n: badimage badsuper 0
+no image named|tree|128|1|f2n: usage
+two images named|tree image image|128|1|f2n: usage";
 
 /// The text with a byte 10 at the end of each line.
 fn lines(alloc: Global, text: &str) -> Result<Vec<u8>, AllocError> {
@@ -123,6 +127,30 @@ fn images_are_made_as_said(rt: HostRuntime) -> Result<(), Fail> {
         assert!(rt; makes_as_said(rt.alloc(), row)?, "{row}");
     }
     Ok(())
+}
+
+/// Whether the tree of an image that was just made has its root alone.
+fn a_new_image_has_its_root(alloc: Global) -> Result<bool, Fail> {
+    let mut holds = true;
+    let mut source = MemSource::new(alloc, b"", &[])?;
+    let mut sink = MemSink::new(alloc, 256, &[])?;
+    let bench = MemBench::new(alloc)?;
+    let disk = MemDisk::new(alloc, 128)?;
+    let make = words(alloc, "mkfs image 128 1")?;
+    let show = words(alloc, "tree image")?;
+    let (made, bench, disk) = run_plain(
+        alloc,
+        make.as_slice(),
+        &mut source,
+        &mut sink,
+        bench,
+        disk,
+    );
+    let (shown, _, _) = run_plain(alloc, show.as_slice(), &mut source, &mut sink, bench, disk);
+    holds &= made == Status::Done;
+    holds &= shown == Status::Done;
+    holds &= sink.bytes() == b"ok mkfs 9 30\n/ dir\n".as_slice();
+    Ok(holds)
 }
 
 fn a_script_may_be_too_long(alloc: Global) -> Result<bool, Fail> {
@@ -227,6 +255,7 @@ fn a_core_runs_events_in_order(alloc: Global) -> Result<bool, Fail> {
 
 #[test]
 fn all_of_top(rt: HostRuntime) -> Result<(), Fail> {
+    assert!(rt; a_new_image_has_its_root(rt.alloc())?);
     assert!(rt; a_script_may_be_too_long(rt.alloc())?);
     assert!(rt; a_core_runs_events_in_order(rt.alloc())?);
     Ok(())

@@ -363,6 +363,7 @@ progress_stops (ending.Script n) all before left line now text is progress stops
 progress_stops ending.SourceFault all before left line now text is progress stops = absurd stops
 progress_stops ending.SinkFault all before left line now text is progress stops = absurd stops
 progress_stops ending.DiskFault all before left line now text is progress stops = absurd stops
+progress_stops (ending.BadImage bad) all before left line now text is progress stops = absurd stops
 
 -- lines that bytes spell may stand where they stand
 pub lines_stand : (begun : Bool) (texts : List (List ℕ)) (lines : List Line) → AreLines Plain begun texts lines → AreStanding begun lines

@@ -2,7 +2,7 @@
 ghost use Rattle.std.specs.Prelude.{◌≡◌, ◌++◌, OnOk};
 ghost use Rattle.f2_play.specs.Endings.{last_line, numbered_line};
 
-use f2_play::{Status, limit_head};
+use f2_play::{Status, bad_image_head, bad_image_number, limit_head};
 use itoa::Buffer;
 use std::alloc::AllocError;
 
@@ -14,15 +14,20 @@ pub fn push_last_line(status: Status, text: &mut Vec<u8>) -> Result<(), AllocErr
     match status {
         Status::Usage => text.extend_from_slice(b"f2n: usage\n"),
         Status::TooLong => text.extend_from_slice(b"f2n: toolong\n"),
-        Status::Script { line } => push_numbered(text, b"f2n: script line ", line),
+        Status::Script { line } => push_numbered(text, b"f2n: script line ", u64::from(line)),
         Status::DiskFault => text.extend_from_slice(b"f2n: diskfault\n"),
-        Status::Geometry { limit, value } => push_numbered(text, limit_head(limit), value),
+        Status::BadImage(bad) => push_numbered(text, bad_image_head(&bad), bad_image_number(&bad)),
+        Status::Geometry { limit, value } => push_numbered(
+            text,
+            limit_head(limit),
+            u64::from(value),
+        ),
         Status::Done | Status::SourceFault | Status::SinkFault | Status::Memory => Ok(()),
     }
 }
 
 /// Puts a line that ends with a number behind a text.
-fn push_numbered(text: &mut Vec<u8>, head: &[u8], number: u32) -> Result<(), AllocError>
+fn push_numbered(text: &mut Vec<u8>, head: &[u8], number: u64) -> Result<(), AllocError>
     ensures { OnOk result (text.new.items ≡ text.old.items ++ numbered_line head.now number) }
 {
     text.extend_from_slice(head)?;

@@ -6,6 +6,7 @@ use Rattle.f2_format.specs.Geometry.{Extent}
 use Rattle.f2_layout.specs.Refusal.{geometry_of}
 use Rattle.f2_layout.specs.declared.geometry.Limit.{Limit}
 use Rattle.f2_layout.specs.declared.geometry.BadGeometry.{BadGeometry}
+use Rattle.f2_recover.specs.declared.faults.BadImage.{BadImage}
 use Rattle.f2_script.specs.declared.script.Line.{Line}
 use Rattle.f2_script.specs.declared.script.Line.TheVariants as verb
 use Rattle.f2_script.specs.declared.script.Line.TheVariants.{Mkfs}
@@ -77,6 +78,7 @@ due-free bytes s free = record {
   only_broken = λ limit value is. absurd (subst IsFree is free);
   never = λ is. absurd (subst IsFree is free);
   never_disk = λ is. absurd (subst IsFree is free);
+  never_image = λ bad is. absurd (subst IsFree is free);
 }
 
 -- the other statuses are due to bytes of which their reason holds
@@ -92,6 +94,7 @@ due-done bytes lines fits spelled within = record {
   only_broken = λ limit value is. absurd (cc);
   never = λ is. absurd (cc);
   never_disk = λ is. absurd (cc);
+  never_image = λ bad is. absurd (cc);
 }
 
 due-long : (bytes : List ℕ) → IsTooLong bytes → IsDue bytes status.TooLong
@@ -106,6 +109,7 @@ due-long bytes long = record {
   only_broken = λ limit value is. absurd (cc);
   never = λ is. absurd (cc);
   never_disk = λ is. absurd (cc);
+  never_image = λ bad is. absurd (cc);
 }
 
 due-line : (bytes : List ℕ) (n : ℕ) → ¬ (IsTooLong bytes) → IsFirstFault grammar.Replay bytes n → IsDue bytes (status.Script n)
@@ -120,6 +124,7 @@ due-line bytes n fits first = record {
   only_broken = λ limit value is. absurd (cc);
   never = λ is. absurd (cc);
   never_disk = λ is. absurd (cc);
+  never_image = λ bad is. absurd (cc);
 }
   where
     line_of : (m n : ℕ) → status.Script m ≡ status.Script n → m ≡ n
@@ -138,6 +143,7 @@ due-limit bytes lines l v fits spelled breaks = record {
       record { fits = fits; lines = lines; spelled = spelled; broken = subst (λ x. BreaksLimit lines x value) one (subst (λ x. BreaksLimit lines l x) two breaks) };
   never = λ is. absurd (cc);
   never_disk = λ is. absurd (cc);
+  never_image = λ bad is. absurd (cc);
 }
   where
     limit_of : (l k : Limit) (v w : ℕ) → status.Geometry l v ≡ status.Geometry k w → l ≡ k
@@ -157,6 +163,7 @@ due-lines bytes lines status.TooLong fits spelled due = absurd due
 due-lines bytes lines (status.Script line) fits spelled due = absurd due
 due-lines bytes lines status.SourceFault fits spelled due = absurd due
 due-lines bytes lines status.DiskFault fits spelled due = absurd due
+due-lines bytes lines (status.BadImage bad) fits spelled due = absurd due
 
 -- a source that tells what it has gave these bytes alone
 cancel : (xs ys zs : List ℕ) → xs ++ zs ≡ ys ++ zs → xs ≡ ys
@@ -216,6 +223,7 @@ played-due lines status.TooLong within played = absurd played
 played-due lines (status.Script line) within played = absurd played
 played-due lines status.SourceFault within played = absurd played
 played-due lines status.DiskFault within played = absurd played
+played-due lines (status.BadImage bad) within played = absurd played
 played-due lines (status.Geometry limit value) within played = absurd played
 
 pub IsDueLines-played : (lines rest : List Line) (asked got : Extent) (s : Status) → lines ≡ Mkfs asked.blocks asked.nat ∷ rest → Ok got ≡ geometry_of asked → IsPlayed s → IsDueLines lines s
@@ -227,3 +235,7 @@ IsDueLines-none lines none limit value breaks = let no : BreaksLimit [] limit va
 -- no lines are due a fault of the disk
 pub IsDueLines-no_disk : (lines : List Line) (s : Status) → IsDueLines lines s → ¬ (s ≡ status.DiskFault)
 IsDueLines-no_disk lines s due is = absurd (subst (IsDueLines lines) is due)
+
+-- nor a condition of an image
+pub IsDueLines-no_image : (lines : List Line) (s : Status) (bad : BadImage) → IsDueLines lines s → ¬ (s ≡ status.BadImage bad)
+IsDueLines-no_image lines s bad due is = absurd (subst (IsDueLines lines) is due)

@@ -6,3 +6,4 @@ pub mod MountLemmas
 pub mod ReplayLemmas
 pub mod DueLemmas
 pub mod MakingLemmas
+pub mod ListingLemmas

@@ -76,6 +76,7 @@ whole extent told now old new (status.Script line) text makes = absurd makes
 whole extent told now old new status.SourceFault text makes = absurd makes
 whole extent told now old new status.SinkFault text makes = absurd makes
 whole extent told now old new status.DiskFault text makes = makes
+whole extent told now old new (status.BadImage bad) text makes = makes
 whole extent told now old new (status.Geometry limit value) text makes = makes
 whole extent told now old new status.Memory text makes = makes
 

@@ -142,6 +142,7 @@ Ends-mkfs extent first told core lines status.TooLong out sizes mounted ends = a
 Ends-mkfs extent first told core lines (status.Script line) out sizes mounted ends = absurd ends
 Ends-mkfs extent first told core lines status.SourceFault out sizes mounted ends = absurd ends
 Ends-mkfs extent first told core lines status.DiskFault out sizes mounted ends = absurd ends
+Ends-mkfs extent first told core lines (status.BadImage bad) out sizes mounted ends = absurd ends
 Ends-mkfs extent first told core lines (status.Geometry limit value) out sizes mounted ends = absurd ends
 
 -- a script whose sizes break no limit
@@ -154,6 +155,7 @@ EndsScript-of told lines status.TooLong out ends = ends
 EndsScript-of told lines (status.Script line) out ends = ends
 EndsScript-of told lines status.SourceFault out ends = ends
 EndsScript-of told lines status.DiskFault out ends = ends
+EndsScript-of told lines (status.BadImage bad) out ends = ends
 EndsScript-of told lines (status.Geometry limit value) out ends = absurd ends
 
 -- the first line of lines that are taken one after another

@@ -98,6 +98,7 @@ WritesFirst-lines told bytes lines status.TooLong out fits spelled ends = absurd
 WritesFirst-lines told bytes lines (status.Script line) out fits spelled ends = absurd ends
 WritesFirst-lines told bytes lines status.SourceFault out fits spelled ends = absurd ends
 WritesFirst-lines told bytes lines status.DiskFault out fits spelled ends = absurd ends
+WritesFirst-lines told bytes lines (status.BadImage bad) out fits spelled ends = absurd ends
 WritesFirst-lines told bytes lines (status.Geometry limit value) out fits spelled ends =
     (record { fits = fits; lines = lines; spelled = spelled; holds = ends.0 }, ends.1)
 
@@ -110,6 +111,7 @@ Writes-told told bytes status.TooLong out h = record { text = out; printed = h; 
 Writes-told told bytes (status.Script line) out h = record { text = out; printed = h; whole = refl }
 Writes-told told bytes status.SourceFault out h = absurd h
 Writes-told told bytes status.DiskFault out h = absurd h
+Writes-told told bytes (status.BadImage bad) out h = absurd h
 Writes-told told bytes (status.Geometry limit value) out h = record { text = out; printed = h; whole = refl }
 Writes-told told bytes status.Memory out h = record { text = out; printed = h; whole = refl }
 
@@ -121,6 +123,7 @@ unread-silent (status.Script line) h = absurd h
 unread-silent status.SourceFault h = refl
 unread-silent status.SinkFault h = absurd h
 unread-silent status.DiskFault h = absurd h
+unread-silent (status.BadImage bad) h = absurd h
 unread-silent (status.Geometry limit value) h = absurd h
 unread-silent status.Memory h = refl
 
@@ -145,6 +148,7 @@ Writes-cut told bytes status.TooLong out gone loud h cut = cut-last bytes status
 Writes-cut told bytes (status.Script line) out gone loud h cut = cut-last bytes (status.Script line) out gone h cut
 Writes-cut told bytes status.SourceFault out gone loud h cut = absurd h
 Writes-cut told bytes status.DiskFault out gone loud h cut = absurd h
+Writes-cut told bytes (status.BadImage bad) out gone loud h cut = absurd h
 Writes-cut told bytes (status.Geometry limit value) out gone loud h cut = cut-last bytes (status.Geometry limit value) out gone h cut
 Writes-cut told bytes status.Memory out gone loud h cut = absurd (loud tt)
 
@@ -156,6 +160,7 @@ unread-loud (status.Script line) h = absurd h
 unread-loud status.SourceFault h = tt
 unread-loud status.SinkFault h = absurd h
 unread-loud status.DiskFault h = absurd h
+unread-loud (status.BadImage bad) h = absurd h
 unread-loud (status.Geometry limit value) h = absurd h
 unread-loud status.Memory h = tt
 

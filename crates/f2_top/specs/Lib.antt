@@ -6,3 +6,4 @@ pub mod Runs
 pub mod Replay
 pub mod Words
 pub mod Making
+pub mod Listing

@@ -10,7 +10,7 @@ use Rattle.f2_layout.specs.declared.geometry.Limit.TheVariants.{Device}
 use Rattle.f2_mount.specs.Making.{HasNewImage}
 use Rattle.f2_script.specs.Steps.{made_spelling}
 use Rattle.f2_play.specs.declared.status.Status.{Status}
-use Rattle.f2_play.specs.declared.status.Status.TheVariants.{Done, Usage, TooLong, Script, SourceFault, SinkFault, DiskFault, Geometry, Memory}
+use Rattle.f2_play.specs.declared.status.Status.TheVariants.{Done, Usage, TooLong, Script, SourceFault, SinkFault, DiskFault, BadImage, Geometry, Memory}
 use Rattle.f2_play.specs.Endings.{last_line}
 use Rattle.f2_play.specs.Lines.{ended}
 use Rattle.f2_top.specs.Streams.{IsCutAfter}
@@ -54,6 +54,7 @@ MakesBy extent told now old new TooLong text = ⊥
 MakesBy extent told now old new (Script line) text = ⊥
 MakesBy extent told now old new SourceFault text = ⊥
 MakesBy extent told now old new SinkFault text = ⊥
+MakesBy extent told now old new (BadImage bad) text = ⊥
 
 -- the text of another status was cut off where the sink failed
 pub record IsCutMaking (extent : Extent) (told now : Option Contents) (old new : Meter) (out : List ℕ) : Type 0 where

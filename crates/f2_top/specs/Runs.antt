@@ -20,7 +20,7 @@ use Rattle.f2_script.specs.declared.script.Line.{Line}
 use Rattle.f2_script.specs.declared.script.Line.TheVariants.{Mkfs, Call, Crash, Tree}
 use Rattle.f2_script.specs.declared.script.Line.TheVariants as kind
 use Rattle.f2_play.specs.declared.status.Status.{Status}
-use Rattle.f2_play.specs.declared.status.Status.TheVariants.{Done, Usage, TooLong, Script, SourceFault, SinkFault, DiskFault, Geometry, Memory}
+use Rattle.f2_play.specs.declared.status.Status.TheVariants.{Done, Usage, TooLong, Script, SourceFault, SinkFault, DiskFault, BadImage, Geometry, Memory}
 use Rattle.f2_play.specs.Parts.{Part, IsCalm, text_of}
 use Rattle.f2_play.specs.Calls.{Mounts}
 use Rattle.f2_play.specs.Lines.{PlaysLine, PlaysLines, new_image}
@@ -125,6 +125,7 @@ Ends P told lines TooLong out = ⊥
 Ends P told lines (Script line) out = ⊥
 Ends P told lines SourceFault out = ⊥
 Ends P told lines DiskFault out = ⊥
+Ends P told lines (BadImage bad) out = ⊥
 Ends P told lines (Geometry limit value) out = ⊥
 
 -- what went out of a script, whose sizes may break a limit

@@ -7,9 +7,11 @@ ghost use Rattle.f2_script.specs.declared.script.Grammar.TheVariants.{Replay};
 ghost use Rattle.f2_play.specs.Due.{IsDue};
 ghost use Rattle.f2_top.specs.Reads.{IsTaken};
 ghost use Rattle.f2_top.specs.Words.{IsReplay};
+ghost use Rattle.f2_top.specs.Listing.{IsListed, IsTree};
 ghost use Rattle.f2_top.specs.Making.{IsMade, IsMkfs, IsNoMkfs};
 ghost use Rattle.f2_top.specs.Replay.{CountsFaults, IsReplayed, IsRefused};
 
+use crate::listing::{is_tree, list};
 use crate::making::{mkfs, sizes_asked};
 use crate::output::finish;
 use crate::replay::replay;
@@ -51,13 +53,17 @@ pub fn run_plain<S: Source, K: Sink, B: Bench, D: Disk>(
     ensures makes { (extent : Extent) → IsMkfs (map string_bytes words.now) extent
         → IsMade extent (D.contents disk) (D.contents result.2) (D.meter disk) (D.meter result.2) (K.written sink.old) (K.written sink.new) result.0 }
 
-    // Words that are neither are no command, and only that is said.
-    ensures usage { ¬ (IsReplay (map string_bytes words.now)) → IsNoMkfs (map string_bytes words.now) → IsRefused (K.written sink.old) (K.written sink.new) result.0 }
+    // The tree that the image on the disk stands for is printed, or what kept it from that is told.
+    ensures lists { IsTree (map string_bytes words.now)
+        → IsListed (D.contents disk) (D.contents result.2) (D.meter disk) (D.meter result.2) (K.written sink.old) (K.written sink.new) result.0 }
 
-    // Nothing is read but by `replay`, which alone has a use for the bench; and only a new image touches the disk.
+    // Words that are none of these are no command, and only that is said.
+    ensures usage { ¬ (IsReplay (map string_bytes words.now)) → IsNoMkfs (map string_bytes words.now) → ¬ (IsTree (map string_bytes words.now)) → IsRefused (K.written sink.old) (K.written sink.new) result.0 }
+
+    // Nothing is read but by `replay`, which alone has a use for the bench; and only commands on an image touch the disk.
     ensures unread { ¬ (IsReplay (map string_bytes words.now)) → source.new ≡ source.old }
     ensures bench { ¬ (IsReplay (map string_bytes words.now)) → result.1 ≡ bench }
-    ensures disk { IsNoMkfs (map string_bytes words.now) → result.2 ≡ disk }
+    ensures disk { IsNoMkfs (map string_bytes words.now) → ¬ (IsTree (map string_bytes words.now)) → result.2 ≡ disk }
 
     // A fault is answered only where the count of the object that it is blamed on rose.
     ensures read { result.0 ≡ Status.SourceFault → Rose (S.faults source.old) (S.faults source.new) }
@@ -67,6 +73,10 @@ pub fn run_plain<S: Source, K: Sink, B: Bench, D: Disk>(
 {
     if let Some(asked) = sizes_asked(words) {
         let status = mkfs(alloc, sink, &mut disk, asked);
+        return (status, bench, disk);
+    }
+    if is_tree(words) {
+        let status = list(alloc, sink, &mut disk);
         return (status, bench, disk);
     }
     if !is_replay(words) {
@@ -94,10 +104,12 @@ pub fn run<R: Threads + Wait + Sync, S: Source, K: Sink, B: Bench, D: Disk + Sen
 
     ensures makes { (extent : Extent) → IsMkfs (map string_bytes words.now) extent
         → IsMade extent (D.contents disk) (D.contents result.2) (D.meter disk) (D.meter result.2) (K.written sink.old) (K.written sink.new) result.0 }
-    ensures usage { ¬ (IsReplay (map string_bytes words.now)) → IsNoMkfs (map string_bytes words.now) → IsRefused (K.written sink.old) (K.written sink.new) result.0 }
+    ensures lists { IsTree (map string_bytes words.now)
+        → IsListed (D.contents disk) (D.contents result.2) (D.meter disk) (D.meter result.2) (K.written sink.old) (K.written sink.new) result.0 }
+    ensures usage { ¬ (IsReplay (map string_bytes words.now)) → IsNoMkfs (map string_bytes words.now) → ¬ (IsTree (map string_bytes words.now)) → IsRefused (K.written sink.old) (K.written sink.new) result.0 }
     ensures unread { ¬ (IsReplay (map string_bytes words.now)) → source.new ≡ source.old }
     ensures bench { ¬ (IsReplay (map string_bytes words.now)) → result.1 ≡ bench }
-    ensures disk { IsNoMkfs (map string_bytes words.now) → result.2 ≡ disk }
+    ensures disk { IsNoMkfs (map string_bytes words.now) → ¬ (IsTree (map string_bytes words.now)) → result.2 ≡ disk }
 
     ensures read { result.0 ≡ Status.SourceFault → Rose (S.faults source.old) (S.faults source.new) }
     ensures silent { result.0 ≡ Status.SourceFault → sink.new ≡ sink.old }

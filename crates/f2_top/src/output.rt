@@ -6,7 +6,7 @@ ghost use Rattle.f2_top.specs.Replay.{Finishes};
 ghost use Rattle.f2_top.specs.Streams.{Puts};
 
 use f2_disk::{Failed, Sink};
-use f2_play::{Status, limit_head};
+use f2_play::{Status, bad_image_head, bad_image_number, limit_head};
 use itoa::Buffer;
 
 /// Writes a text as a whole.
@@ -26,7 +26,7 @@ pub(crate) fn put<K: Sink>(sink: &mut K, text: &[u8]) -> Result<(), Failed>
 }
 
 /// Writes a number and the end of its line.
-fn put_number<K: Sink>(sink: &mut K, number: u32) -> Result<(), Failed>
+fn put_number<K: Sink>(sink: &mut K, number: u64) -> Result<(), Failed>
     ensures bytes { Puts (K.written sink.old) (K.written sink.new) result (decimal number ++ 10 ∷ []) }
     ensures cause { HasCause (K.faults sink.old) (K.faults sink.new) result }
 {
@@ -35,7 +35,7 @@ fn put_number<K: Sink>(sink: &mut K, number: u32) -> Result<(), Failed>
 }
 
 /// Writes a line that ends with a number.
-fn put_numbered<K: Sink>(sink: &mut K, head: &[u8], number: u32) -> Result<(), Failed>
+fn put_numbered<K: Sink>(sink: &mut K, head: &[u8], number: u64) -> Result<(), Failed>
     ensures bytes { Puts (K.written sink.old) (K.written sink.new) result (numbered_line head.now number) }
     ensures cause { HasCause (K.faults sink.old) (K.faults sink.new) result }
 {
@@ -53,9 +53,14 @@ pub(crate) fn put_last_line<K: Sink>(sink: &mut K, status: Status) -> Result<(),
     match status {
         Status::Usage => put(sink, b"f2n: usage\n"),
         Status::TooLong => put(sink, b"f2n: toolong\n"),
-        Status::Script { line } => put_numbered(sink, b"f2n: script line ", line),
+        Status::Script { line } => put_numbered(sink, b"f2n: script line ", u64::from(line)),
         Status::DiskFault => put(sink, b"f2n: diskfault\n"),
-        Status::Geometry { limit, value } => put_numbered(sink, limit_head(limit), value),
+        Status::BadImage(bad) => put_numbered(sink, bad_image_head(&bad), bad_image_number(&bad)),
+        Status::Geometry { limit, value } => put_numbered(
+            sink,
+            limit_head(limit),
+            u64::from(value),
+        ),
         Status::Done | Status::SourceFault | Status::SinkFault | Status::Memory => Ok(()),
     }
 }

@@ -2,6 +2,7 @@
 ghost use Rattle.std.specs.Prelude.{◌≡◌, ◌≤◌, ℕ, List};
 ghost use Rattle.std.specs.Io.KnownBytes.{Appends};
 ghost use Rattle.f2_disk.specs.Faults.{Rose};
+ghost use Rattle.f2_recover.specs.declared.faults.BadImage.{BadImage};
 ghost use Rattle.f2_script.specs.declared.script.Grammar.TheVariants.{Replay};
 ghost use Rattle.f2_play.specs.Due.{IsDue};
 ghost use Rattle.f2_top.specs.Reads.{IsTaken};
@@ -26,6 +27,7 @@ pub(crate) fn replay<S: Source, K: Sink, B: Bench>(
         × Ran (B.contents result.1) (S.remaining source.old) (S.remaining source.new) result.0 out }
     ensures due { (bytes : List ℕ) → IsTaken (S.remaining source.old) (S.remaining source.new) bytes → IsDue Replay bytes result.0 }
     ensures no_disk { ¬ (result.0 ≡ Status.DiskFault) }
+    ensures no_image { (bad : BadImage) → ¬ (result.0 ≡ Status.BadImage bad) }
     ensures read { result.0 ≡ Status.SourceFault → Rose (S.faults source.old) (S.faults source.new) }
     ensures silent { result.0 ≡ Status.SourceFault → sink.new ≡ sink.old }
     ensures later { K.faults sink.old ≤ K.faults sink.new }

@@ -6,7 +6,7 @@ use f2_disk::{MemBench, StdSink, StdSource};
 use f2_file_disk::FileDisk;
 use f2_layout::Geometry;
 use f2_model::Meet;
-use f2_top::{Status, run, sizes_asked};
+use f2_top::{Status, is_tree, run, sizes_asked};
 use std::alloc::AllocError;
 use std::fs::{File, Files};
 use std::process::ExitCode;
@@ -34,12 +34,17 @@ fn words<R: Env + AllocGlobal>(rt: &R) -> Result<Vec<String>, AllocError> {
 }
 
 /// The disk of a command. The words `mkfs IMAGE B N` make the file IMAGE as long as an image of B blocks, where these
-/// sizes break no limit. With sizes that break one, and for other words, no file is touched.
+/// sizes break no limit, and the words `tree IMAGE` open it. With sizes that break one, and for other words, no file is
+/// touched.
 fn disk_of_words<R: Files<File = File>>(rt: &R, words: &[String]) -> FileDisk {
-    match (words, sizes_asked(words)) {
-        ([_, image, ..], Some(sizes)) if Geometry::new(sizes.blocks, sizes.nat).is_ok() => {
+    let [_, image, ..] = words else {
+        return FileDisk::none();
+    };
+    match sizes_asked(words) {
+        Some(sizes) if Geometry::new(sizes.blocks, sizes.nat).is_ok() => {
             FileDisk::make(rt, image.as_str(), sizes.blocks)
         }
+        None if is_tree(words) => FileDisk::open(rt, image.as_str()),
         _ => FileDisk::none(),
     }
 }

@@ -1,7 +1,7 @@
 use Rattle.std.proofs.Common.{sym, subst, refl, inl, ap, Err, List, ℕ}
 use Rattle.f2_top.specs.Reads.{TakesScript}
 use Rattle.f2_top.proofs.ReplayLemmas.{Spells-playable, Ran-lines, Ran-none, Ran-line, ok-fits, line-fits}
-use Rattle.f2_top.proofs.DueLemmas.{DueTaken-lines, DueTaken-long, DueTaken-line, IsDueLines-no_disk}
+use Rattle.f2_top.proofs.DueLemmas.{DueTaken-lines, DueTaken-long, DueTaken-line, IsDueLines-no_disk, IsDueLines-no_image}
 use Rattle.f2_top.proofs.replay.replay.Goals as goal
 
 pub play-requires : goal.play-requires
@@ -49,3 +49,6 @@ returns-clause-ran g c =
 
 pub returns-in-Ok-parse-clause-no_disk : goal.returns-in-Ok-parse-clause-no_disk
 returns-in-Ok-parse-clause-no_disk g c = IsDueLines-no_disk c.in-Ok-parse.lines _ c.play.ensures.due
+
+pub returns-in-Ok-parse-clause-no_image : goal.returns-in-Ok-parse-clause-no_image
+returns-in-Ok-parse-clause-no_image g c = λ bad. IsDueLines-no_image c.in-Ok-parse.lines _ bad c.play.ensures.due
