@@ -178,10 +178,14 @@ fn spoil(disk: &mut MemDisk, flaw: Flaw) -> Result<(), Fail> {
 
 /// Writes five new files into the log.
 fn put_new_files(disk: &mut MemDisk) -> Result<(), Fail> {
-    let names: [&'static [u8]; 5] = [b"p", b"q", b"r", b"s", b"t"];
-    let mut at = 20;
-    let mut ino = 8;
-    for name in names {
+    let files: [(u32, u32, &'static [u8]); 5] = [
+        (20, 8, b"p"),
+        (21, 9, b"q"),
+        (22, 10, b"r"),
+        (23, 11, b"s"),
+        (24, 12, b"t"),
+    ];
+    for (at, ino, name) in files {
         put_inode(
             disk,
             InodeAt {
@@ -191,8 +195,6 @@ fn put_new_files(disk: &mut MemDisk) -> Result<(), Fail> {
                 ..NEW
             },
         )?;
-        at += 1;
-        ino += 1;
     }
     Ok(())
 }
