@@ -24,7 +24,8 @@ use std::alloc::{AllocError, Global};
 /// The tree of an image whose base and marked files were read: each file as its last mark has it, and all else as the base
 /// has it.
 ///
-/// Each nid that the node address table has room for is looked at once, and each name and each address is copied once.
+/// Each nid that the node address table has room for is looked at once, and each name and each address is copied once. Whatever
+/// was read, the pages of the tree stand within the blocks of the image.
 pub fn put_together(
     alloc: Global,
     g: &Geometry,

@@ -4,8 +4,8 @@
 //! the layer above uses is its clause: what it gives is the tree that the image stands for. A tree takes memory for its rows,
 //! names and addresses; what pages hold stays in the image.
 //!
-//! The definitions stand in `specs/`: the addresses of pages (`Pages`), what a tree is found as (`Found`), the rows up to an ino
-//! (`Made`), and the names up to an ino (`Named`).
+//! The definitions stand in `specs/`: the addresses of pages (`Pages`), that they stand within an image (`Places`), what a tree is
+//! found as (`Found`), the rows up to an ino (`Made`), and the names up to an ino (`Named`).
 #![tactic(auto)]
 
 mod building;

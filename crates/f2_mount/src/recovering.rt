@@ -35,9 +35,9 @@ pub struct Recovered {
 /// The tree that an image stands for, read as a mount reads it: the newest checkpoint, and the node log rolled forward over
 /// it.
 ///
-/// Each block that the tree needs is read once, but for the pages of files, of which at most two of each file are looked at.
-/// Nothing is written. A condition that is told stands in the image; a sound image meets none but that of the last version.
-/// After any error the disk holds what it held, so the call can be made again.
+/// Each block that the tree needs is read once, but for the pages of files: of these at most one is looked at for each file of
+/// the checkpoint and for each mark. Nothing is written. A condition that is told stands in the image; a sound image meets none
+/// but that of the last version. After any error the disk holds what it held, so the call can be made again.
 pub fn recover_image<D: Disk>(alloc: Global, disk: &mut D) -> Result<Recovered, MountFault>
     ensures recovered { IfOk result (λ recovered. (image : Image) → Tells (D.contents disk.old) image → IsRecovered image recovered) }
     ensures fits { IfOk result (λ recovered. IsWithinBlocks (D.meter disk.old).blocks recovered.tree) }
