@@ -30,7 +30,7 @@ marked_below log =
 pub block_before : (log : List Logged) (one : Logged) (place : ℕ) → place < length log → block_in (log ++ one ∷ []) place ≡ block_in log place
 block_before log one place small = ap (λ (x : Logged). x.block) (get_or_append_left log (one ∷ []) no_block place small)
 
-block_last : (log : List Logged) (one : Logged) → block_in (log ++ one ∷ []) (length log) ≡ one.block
+pub block_last : (log : List Logged) (one : Logged) → block_in (log ++ one ∷ []) (length log) ≡ one.block
 block_last log one = ap (λ (x : Logged). x.block) (get_or_push log one no_block (length log) refl)
 
 abbrev test : List Logged → Logged → ℕ → Bool

@@ -1,20 +1,21 @@
 -- The log, its nids and its marks once a position is drawn.
-use Rattle.std.proofs.Common.{◌≡◌, ◌⊎◌, inl, inr, ℕ, ◌*◌, ◌<◌, ◌≤◌, List, [], ◌∷◌, ◌++◌, length, take, refl, sym, ap, ◌∙◌, subst, arith}
+use Rattle.std.proofs.Common.{◌≡◌, ◌⊎◌, inl, inr, ℕ, ◌+◌, ◌*◌, ◌<◌, ◌≤◌, true, List, [], ◌∷◌, ◌++◌, length, take, slice_index_or, refl, sym, ap, ◌∙◌, subst, arith}
 use Rattle.std.specs.Prelude.{map as map_list, Some}
 use Rattle.std.specs.List.{AllByRecursion, AllZip, Contains}
 use Rattle.std.specs.FinMap as map
-use Rattle.std.proofs.lemmas.List.{length-map, length_push, map_push, take-append-le}
+use Rattle.std.proofs.lemmas.Bool.{cases_lt}
+use Rattle.std.proofs.lemmas.List.{length-map, length_push, map_push, take-append-le, get_or_append_left, get_or_push}
 use Rattle.std.proofs.lemmas.List.Elements.{Contains-append_left}
 use Rattle.f2_format.specs.Geometry.{data_third}
 use Rattle.f2_format.specs.Footer.{footer_nid, footer_ino, footer_offset, footer_version, footer_next}
 use Rattle.f2_disk.specs.Contents.{Contents}
 use Rattle.f2_model.specs.State.{State, Mark}
-use Rattle.f2_image.specs.Chains.{Logged, block_in, marked_places, marked_address}
+use Rattle.f2_image.specs.Chains.{Logged, no_block, block_in, is_marked, marked_places, marked_address}
 use Rattle.f2_image.specs.Reached.{AllDiffer}
 use Rattle.f2_image_laws.specs.Chained.{Follow, HoldsOrOther, HoldsNone, HoldsAlone}
 use Rattle.f2_stored.specs.Layout.{Open, Position, Owners, Layout, chained, log_version}
 use Rattle.f2_stored.specs.Logs.{HoldsAs, HoldsLog, IsLogAddress, log_addresses}
-use Rattle.f2_stored.specs.Numbers.{IsNumbered, HasNids}
+use Rattle.f2_stored.specs.Numbers.{IsNumbered, CountsAt, MayCount, HasNids}
 use Rattle.f2_stored.specs.Marks.{HoldsMark}
 use Rattle.f2_image_laws.specs.Rolled.{image_limits}
 use Rattle.f2_room_laws.specs.Fitting.{AreFitting}
@@ -22,14 +23,15 @@ use Rattle.f2_stored.specs.Changes.{with_drawn}
 use Rattle.f2_stored.specs.Stored.{KeepsPacks, KeepsLog}
 use Rattle.f2_change_laws.specs.Drawing.{MayBeDrawn}
 use Rattle.f2_change_laws.proofs.Fewer.{fewer_same}
-use Rattle.f2_change_laws.proofs.Each.{each_weaker, each_push, zip_weaker}
-use Rattle.f2_change_laws.proofs.Counts.{marked_below, block_before}
+use Rattle.f2_change_laws.proofs.Each.{each_push, zip_weaker}
+use Rattle.f2_change_laws.proofs.Counts.{marked_below, block_before, block_last}
 use Rattle.f2_change_laws.proofs.Pairs.{got, gets_still}
 use Rattle.f2_change_laws.proofs.LongerLogs.{follow_push, differ_push, address_same}
 use Rattle.f2_change_laws.proofs.KeptImages.{packs_kept}
 use Rattle.f2_change_laws.proofs.KeptMarks.{mark_kept}
 
 module _ (lists : Contents) (layout : Layout) (state : State) (block : List ℕ) (owners : Owners) (keeps : KeepsLog lists layout state) (may : MayBeDrawn layout block)
+    (counting : is_marked block ≡ true → MayCount layout (footer_ino block))
     (wider : (at : ℕ) (owner : ℕ × ℕ) → map.get layout.owners at ≡ Some owner → map.get owners at ≡ Some owner) (few : map.len owners ≤ 2 * data_third layout.base.point.extent) where
   abbrev drawn : Layout
   drawn = with_drawn layout block owners
@@ -89,12 +91,47 @@ module _ (lists : Contents) (layout : Layout) (state : State) (block : List ℕ)
   drawn_nids : HasNids drawn
   drawn_nids = record {
     base = λ ino offset nid is. still (ino, offset) nid (keeps.nids.base ino offset nid is);
-    log = subst (AllByRecursion (IsNumbered drawn)) (sym chain_more)
-        (each_push (IsNumbered drawn) (chained layout) one (each_weaker (IsNumbered layout) (IsNumbered drawn) numbered (chained layout) keeps.nids.log)
-        record { nid = may.numbered.nid; least = may.numbered.least; most = may.numbered.most; inode = may.numbered.inode; shape = may.numbered.shape });
+    log = subst (λ (c : List Logged). (place : ℕ) → place < length c → CountsAt c place → IsNumbered drawn (slice_index_or c place no_block)) (sym chain_more) numbers;
     differ = λ a b nid here there. by_entry a b nid (got layout.nids key (footer_nid block) a nid here) (got layout.nids key (footer_nid block) b nid there);
   }
     where
+      fresh : IsNumbered drawn one
+      fresh = record { nid = may.numbered.nid; least = may.numbered.least; most = may.numbered.most; inode = may.numbered.inode; shape = may.numbered.shape }
+
+      -- a block that was there counted before, or the new one is its file's mark
+      before : (k : ℕ) → k < length (chained layout) → (counts : CountsAt (chained layout ++ one ∷ []) k) → (counts.mark < length (chained layout)) ⊎ (counts.mark ≡ length (chained layout))
+          → IsNumbered layout (slice_index_or (chained layout) k no_block)
+      before k small counts (inl old) =
+          keeps.nids.log k small record {
+            mark = counts.mark;
+            later = counts.later;
+            small = old;
+            marked = ap is_marked (sym (block_before (chained layout) one counts.mark old)) ∙ counts.marked;
+            same = ap footer_ino (sym (block_before (chained layout) one counts.mark old)) ∙ counts.same ∙ ap footer_ino (block_before (chained layout) one k small);
+          }
+      before k small counts (inr last) =
+          let is : block_in (chained layout ++ one ∷ []) counts.mark ≡ block = ap (block_in (chained layout ++ one ∷ [])) last ∙ block_last (chained layout) one in
+          counting (ap is_marked (sym is) ∙ counts.marked) k small (ap footer_ino (sym (block_before (chained layout) one k small)) ∙ sym counts.same ∙ ap footer_ino is)
+
+      long : length (chained layout ++ one ∷ []) ≡ length (chained layout) + 1
+      long = length_push (chained layout) one
+
+      -- a place of the longer log is one of the log, or the new one
+      mark_there : (at : ℕ) → at < length (chained layout ++ one ∷ []) → (at < length (chained layout)) ⊎ (length (chained layout) ≤ at) → (at < length (chained layout)) ⊎ (at ≡ length (chained layout))
+      mark_there at within (inl less) = inl less
+      mark_there at within (inr past) = inr (omega (arith, past, within, long))
+
+      at_place : (k : ℕ) → k < length (chained layout ++ one ∷ []) → (k < length (chained layout)) ⊎ (length (chained layout) ≤ k) → CountsAt (chained layout ++ one ∷ []) k
+          → IsNumbered drawn (slice_index_or (chained layout ++ one ∷ []) k no_block)
+      at_place k small (inl old) counts =
+          subst (IsNumbered drawn) (sym (get_or_append_left (chained layout) (one ∷ []) no_block k old))
+          (numbered (slice_index_or (chained layout) k no_block)
+          (before k old counts (mark_there counts.mark counts.small (cases_lt counts.mark (length (chained layout))))))
+      at_place k small (inr past) counts = subst (IsNumbered drawn) (sym (get_or_push (chained layout) one no_block k (omega (arith, past, small, long)))) fresh
+
+      numbers : (k : ℕ) → k < length (chained layout ++ one ∷ []) → CountsAt (chained layout ++ one ∷ []) k → IsNumbered drawn (slice_index_or (chained layout ++ one ∷ []) k no_block)
+      numbers k small counts = at_place k small (cases_lt k (length (chained layout))) counts
+
       by_entry : (a b : ℕ × ℕ) (nid : ℕ) → ((a ≡ key) × (nid ≡ footer_nid block)) ⊎ (map.get layout.nids a ≡ Some nid) → ((b ≡ key) × (nid ≡ footer_nid block)) ⊎ (map.get layout.nids b ≡ Some nid) → a ≡ b
       by_entry a b nid (inl new) (inl also) = new.0 ∙ sym also.0
       by_entry a b nid (inl new) (inr old) = new.0 ∙ sym (may.own b (old ∙ ap Some new.1))

@@ -1,5 +1,5 @@
 -- What is kept of a log whose positions stay, by what its addresses hold.
-use Rattle.std.proofs.Common.{◌≡◌, ◌≢◌, ℕ, ◌≤◌, IsTrue, List, [], ◌∷◌, ◌++◌, length, take, Option, Some, refl, sym, ap, ◌∙◌, subst, arith}
+use Rattle.std.proofs.Common.{◌≡◌, ◌≢◌, ℕ, ◌<◌, ◌≤◌, IsTrue, List, [], ◌∷◌, ◌++◌, length, take, slice_index_or, Option, Some, refl, sym, ap, ◌∙◌, subst, arith}
 use Rattle.std.specs.Prelude.{map as map_list}
 use Rattle.std.specs.List.{AllByRecursion, AllZip, Contains}
 use Rattle.std.specs.FinMap as map
@@ -9,17 +9,17 @@ use Rattle.f2_format.specs.Footer.{footer_version}
 use Rattle.f2_disk.specs.Contents.{Contents}
 use Rattle.f2_model.specs.Tree.{Rows}
 use Rattle.f2_model.specs.State.{State, Mark}
-use Rattle.f2_image.specs.Chains.{Logged, block_in, marked_places, marked_address}
+use Rattle.f2_image.specs.Chains.{Logged, no_block, block_in, marked_places, marked_address}
 use Rattle.f2_image.specs.Reached.{AllDiffer}
 use Rattle.f2_image_laws.specs.Chained.{Follow, HoldsOrOther, HoldsNone, HoldsAlone}
 use Rattle.f2_stored.specs.Layout.{Position, Reference, Layout, chained, log_version}
 use Rattle.f2_stored.specs.Bases.{HoldsImage}
 use Rattle.f2_stored.specs.Logs.{HoldsAs, IsLogAddress, log_addresses}
-use Rattle.f2_stored.specs.Numbers.{IsNumbered}
+use Rattle.f2_stored.specs.Numbers.{IsNumbered, CountsAt}
 use Rattle.f2_stored.specs.Marks.{HoldsMark, marks_within}
 use Rattle.f2_stored.specs.Stored.{KeepsLog}
 use Rattle.f2_change_laws.proofs.Fewer.{Fewer}
-use Rattle.f2_change_laws.proofs.Each.{each_weaker, zip_weaker}
+use Rattle.f2_change_laws.proofs.Each.{zip_weaker}
 use Rattle.f2_change_laws.proofs.KeptMarks.{mark_kept, fitting_kept}
 
 always : {X : Type 0} (xs : List X) → AllByRecursion (λ x. Unit {0}) xs
@@ -71,7 +71,8 @@ module _ (lists new : Contents) (layout : Layout) (state : State) (keeps : Keeps
     };
     nids = record {
       base = keeps.nids.base;
-      log = subst (AllByRecursion (IsNumbered after)) (sym same) (each_weaker (IsNumbered layout) (IsNumbered after) numbered (chained layout) keeps.nids.log);
+      log = subst (λ (c : List Logged). (place : ℕ) → place < length c → CountsAt c place → IsNumbered after (slice_index_or c place no_block)) (sym same)
+          (λ place small counts. numbered (slice_index_or (chained layout) place no_block) (keeps.nids.log place small counts));
       differ = keeps.nids.differ;
     };
     owners = record { base = keeps.owners.base; few = keeps.owners.few };

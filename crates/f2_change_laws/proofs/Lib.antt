@@ -22,3 +22,4 @@ pub mod Pairs
 pub mod LongerLogs
 pub mod DrawnLogs
 pub mod Draws
+pub mod Forgotten

@@ -8,7 +8,7 @@ use Rattle.f2_model.specs.State.{State, Mark}
 use Rattle.f2_image.specs.Chains.{is_marked}
 use Rattle.f2_stored.specs.Layout.{Owners, Layout, log_version}
 use Rattle.f2_stored.specs.Logs.{IsLogAddress, log_addresses}
-use Rattle.f2_stored.specs.Numbers.{IsNumbered}
+use Rattle.f2_stored.specs.Numbers.{IsNumbered, MayCount}
 use Rattle.f2_stored.specs.Marks.{HoldsMark}
 use Rattle.f2_image_laws.specs.Rolled.{image_limits}
 use Rattle.f2_room_laws.specs.Fitting.{AreFitting}
@@ -37,7 +37,7 @@ NodesMayBeDrawn =
     is_marked block ≡ false →
     KeepsPacks lists (with_drawn layout block layout.owners) state × KeepsLog lists (with_drawn layout block layout.owners) state
 
--- a marked inode: its row joins the marks, and its pages get their owner
+-- a marked inode: its row joins the marks, and its pages get their owner; from then on all that the log has of its file counts
 abbrev pub MarksMayBeDrawn : Type 0
 MarksMayBeDrawn =
     (lists : Contents) (layout : Layout) (state : State) (block : List ℕ) (owners : Owners) (mark : Mark) →
@@ -45,6 +45,7 @@ MarksMayBeDrawn =
     KeepsLog lists layout state →
     MayBeDrawn layout block →
     is_marked block ≡ true →
+    MayCount layout (footer_ino block) →
     ((at : ℕ) (owner : ℕ × ℕ) → map.get layout.owners at ≡ Some owner → map.get owners at ≡ Some owner) →
     map.len owners ≤ 2 * data_third layout.base.point.extent →
     HoldsMark lists (with_drawn layout block owners) state.base (length layout.log) mark →

@@ -4,3 +4,4 @@ pub mod Flushing
 pub mod Drawing
 pub mod Checkpointing
 pub mod Crashing
+pub mod Forgetting

@@ -9,10 +9,12 @@ mod checkpointing;
 mod crashing;
 mod drawing;
 mod flushing;
+mod forgetting;
 mod writing;
 
 pub use checkpointing::{flushed_tails_count, tails_may_be_written};
 pub use crashing::crashes_keep;
 pub use drawing::{marks_may_be_drawn, nodes_may_be_drawn};
 pub use flushing::{flushes_keep, flushes_settle, settled_marks_may_be_acknowledged};
+pub use forgetting::numbers_may_be_forgotten;
 pub use writing::{free_writes_keep, submits_keep};

@@ -1,5 +1,5 @@
 -- The marked inode of a file for which an fsync drew the next position.
-use Rattle.std.proofs.Common.{◌≡◌, ℕ, ◌+◌, ◌*◌, ◌≤◌, false, cond, List, [], ◌∷◌, ◌++◌, length, refl, sym, ap, ◌∙◌, arith}
+use Rattle.std.proofs.Common.{◌≡◌, ℕ, ◌+◌, ◌*◌, ◌≤◌, false, cond, List, [], ◌∷◌, ◌++◌, length, refl, sym, ap, ◌∙◌, subst, arith}
 use Rattle.std.specs.Prelude.{Some, None}
 use Rattle.std.specs.FinMap as map
 use Rattle.std.specs.FinSet as set
@@ -19,6 +19,7 @@ use Rattle.f2_room_laws.specs.Fitting.{AreFitting}
 use Rattle.f2_stored.specs.Places.{Places}
 use Rattle.f2_stored.specs.Trees.{Unwritten}
 use Rattle.f2_stored.specs.Layout.{Owners, Layout, chained}
+use Rattle.f2_stored.specs.Numbers.{MayCount}
 use Rattle.f2_stored.specs.Marks.{HoldsMark, marks_within}
 use Rattle.f2_stored.specs.Changes.{LeaveTheSame, with_drawn}
 use Rattle.f2_stored.specs.Stored.{KeepsPacks, KeepsLog}
@@ -43,7 +44,7 @@ the_row a b is = cc
 module _ (lists : Contents) (layout : Layout) (state : State) (places : Places) (unwritten : Unwritten) (seat ino : ℕ) (progress : Progress) (row : Row) (block : List ℕ) (owners : Owners)
     (kept : IsKept lists layout state places unwritten) (there : map.get state.flights seat ≡ Some (InFsync ino progress)) (part : progress.part ≡ InNodes) (none : progress.slot ≡ None)
     (clean : (offset : ℕ) → set.contains state.dirty_nodes (ino, offset) ≡ false) (whole : set.contains state.shrunk ino ≡ false) (of_tree : map.get state.live ino ≡ Some row) (size : row.size ≤ SIZE_LIMIT)
-    (may : MayBeDrawn layout block) (next : IsNextElsewhere places (footer_next block)) (is_mark : IsMarkOf state places ino row block) (is : IsBlockFor state places ino 0 block)
+    (may : MayBeDrawn layout block) (counting : MayCount layout ino) (next : IsNextElsewhere places (footer_next block)) (is_mark : IsMarkOf state places ino row block) (is : IsBlockFor state places ino 0 block)
     (owns : OwnsPages places ino layout.owners owners) (few : map.len owners ≤ 2 * data_third layout.base.point.extent)
     (fitting : AreFitting (image_limits layout.base.point.extent) (record state { marks = state.marks ++ record { ino = ino; row = row } ∷ [] })) where
   abbrev after : State
@@ -88,7 +89,7 @@ module _ (lists : Contents) (layout : Layout) (state : State) (places : Places) 
   holds = live_files_give_marks lists layout state places unwritten ino row block owners kept.packs kept.log kept.live kept.told may_be_marked is_mark owns.own
 
   disk : KeepsPacks lists layout_now between × KeepsLog lists layout_now between
-  disk = marks_may_be_drawn lists layout state block owners mark kept.packs kept.log may is_mark.marked owns.kept few holds fitting
+  disk = marks_may_be_drawn lists layout state block owners mark kept.packs kept.log may is_mark.marked (subst (MayCount layout) (sym is_mark.footer_ino) counting) owns.kept few holds fitting
 
   still_clean : (file low : ℕ) → set.contains state.dirty_nodes (file, low) ≡ false → set.contains after.dirty_nodes (file, low) ≡ false
   still_clean file low is = is
@@ -151,5 +152,5 @@ module _ (lists : Contents) (layout : Layout) (state : State) (places : Places) 
       in_memory = record { base = refl; marks = refl; acknowledged = refl; pending = refl; format = refl; version = refl; next_format = refl }
 
 pub drawn_marks : DrawnMarksKeep
-drawn_marks lists layout state places unwritten seat ino progress row block owners kept there part none clean whole of_tree size may next is_mark is owns few fitting =
-    drawn_mark_stands lists layout state places unwritten seat ino progress row block owners kept there part none clean whole of_tree size may next is_mark is owns few fitting
+drawn_marks lists layout state places unwritten seat ino progress row block owners kept there part none clean whole of_tree size may counting next is_mark is owns few fitting =
+    drawn_mark_stands lists layout state places unwritten seat ino progress row block owners kept there part none clean whole of_tree size may counting next is_mark is owns few fitting

@@ -16,6 +16,7 @@ use Rattle.f2_live_laws.specs.Marking.{IsMarkOf}
 use Rattle.f2_stored.specs.Places.{Places}
 use Rattle.f2_stored.specs.Trees.{Unwritten}
 use Rattle.f2_stored.specs.Layout.{Owners, Layout}
+use Rattle.f2_stored.specs.Numbers.{MayCount}
 use Rattle.f2_stored.specs.Changes.{with_drawn}
 use Rattle.f2_stored.specs.Kept.{IsBlockFor, IsKept}
 use Rattle.f2_event_laws.specs.Nodes.{IsNextElsewhere}
@@ -25,7 +26,8 @@ pub record OwnsPages (places : Places) (ino : ℕ) (owners now : Owners) : Type 
   pub kept : (at : ℕ) (owner : ℕ × ℕ) → map.get owners at ≡ Some owner → map.get now at ≡ Some owner
   pub own : (page at : ℕ) → map.get places.pages (ino, page) ≡ Some at → map.get now at ≡ Some (ino, page)
 
--- an fsync draws the next position for the marked inode of its file, of which nothing is dirty any more: the file's row joins the marks
+-- an fsync draws the next position for the marked inode of its file, of which nothing is dirty any more: the file's row joins the marks, and
+-- all that the log has of the file counts from then on
 abbrev pub DrawnMarksKeep : Type 0
 DrawnMarksKeep =
     (lists : Contents) (layout : Layout) (state : State) (places : Places) (unwritten : Unwritten) (seat ino : ℕ) (progress : Progress) (row : Row) (block : List ℕ) (owners : Owners) →
@@ -38,6 +40,7 @@ DrawnMarksKeep =
     map.get state.live ino ≡ Some row →
     row.size ≤ SIZE_LIMIT →
     MayBeDrawn layout block →
+    MayCount layout ino →
     IsNextElsewhere places (footer_next block) →
     IsMarkOf state places ino row block →
     IsBlockFor state places ino 0 block →

@@ -1,8 +1,9 @@
 -- An image of a disk with a node log: its log is a first part of the positions, and its base reads like the kept one.
-use Rattle.std.proofs.Common.{◌≡◌, ℕ, ◌+◌, ◌<◌, ◌≤◌, IsTrue, List, length, take, Contains, slice_index_or, ap, ◌∙◌, subst, arith}
+use Rattle.std.proofs.Common.{◌≡◌, ℕ, ◌+◌, ◌<◌, ◌≤◌, IsTrue, List, length, take, Contains, slice_index_or, refl, sym, ap, ◌∙◌, subst, arith}
 use Rattle.std.specs.List.{AllZip}
 use Rattle.std.proofs.lemmas.List.{get_or-take, length-take-le, length-map}
 use Rattle.f2_format.specs.Geometry.{node_third}
+use Rattle.f2_format.specs.Footer.{footer_ino}
 use Rattle.f2_disk.specs.Contents.{Contents, IsImage}
 use Rattle.f2_model.specs.State.{State, Mark}
 use Rattle.f2_image.specs.Images.{Image}
@@ -13,6 +14,7 @@ use Rattle.f2_image_laws.specs.Alike.{ReadAlike}
 use Rattle.f2_image_laws.proofs.Chain.{chain_is_first_part}
 use Rattle.f2_image_laws.proofs.ReadingBases.{read_alike}
 use Rattle.f2_stored.specs.Layout.{Layout, chained, log_version}
+use Rattle.f2_stored.specs.Numbers.{CountsAt}
 use Rattle.f2_stored.specs.Marks.{HoldsMark, address_at, marks_within}
 use Rattle.f2_stored.specs.Stored.{KeepsLog}
 use Rattle.f2_stored_laws.proofs.Images.{one_content}
@@ -71,6 +73,28 @@ module _ (lists : Contents) (layout : Layout) (state : State) (image : Image) (p
   pub taken_in : (place : ℕ) (block : List ℕ) → IsTaken image layout.base.point place block → (place < part.count) × (block ≡ block_in (chained layout) place)
   taken_in place block (reached.marked is) = (in_part place is.within, is.stands ∙ block_same place (in_part place is.within))
   taken_in place block (reached.direct is direct) = let below = in_part is.mark is.marked.within in let later = is.later in let small : place < part.count = omega (arith, below, later) in (small, is.stands ∙ block_same place small)
+
+  -- a block that recovery takes counts in the log
+  pub counts_in : (place : ℕ) (block : List ℕ) → IsTaken image layout.base.point place block → CountsAt (chained layout) place
+  counts_in place block (reached.marked is) =
+      let small = in_part place is.within in
+      record {
+        mark = place;
+        later = omega arith;
+        small = in_log place small;
+        marked = subst (λ b. IsTrue (is_marked b)) (is.stands ∙ block_same place small) is.marked;
+        same = refl;
+      }
+  counts_in place block (reached.direct is direct) =
+      let small = in_part is.mark is.marked.within in
+      let later = is.later in
+      record {
+        mark = is.mark;
+        later = is.later;
+        small = in_log is.mark small;
+        marked = subst (λ b. IsTrue (is_marked b)) (is.marked.stands ∙ block_same is.mark small) is.marked.marked;
+        same = ap footer_ino (sym (is.marked.stands ∙ block_same is.mark small)) ∙ is.same ∙ ap footer_ino (is.stands ∙ block_same place (omega (arith, later, small)));
+      }
 
   -- the address of a page of a marked block
   pub address_same : (place page : ℕ) → place < part.count → marked_address image layout.base.point (chain image layout.base.point) place page ≡ address_at layout place page

@@ -17,8 +17,7 @@ use Rattle.f2_image.specs.Faults as faults
 use Rattle.f2_image_laws.proofs.Agreeing.{bad_nat}
 use Rattle.f2_stored.specs.Layout.{Layout, chained}
 use Rattle.f2_stored.specs.Numbers.{IsNumbered}
-use Rattle.f2_stored_laws.proofs.Lists.{at_place}
-use Rattle.f2_stored_laws.proofs.LogImages.{HasPart, MarkAt, in_log, taken_in, mark_at}
+use Rattle.f2_stored_laws.proofs.LogImages.{HasPart, MarkAt, in_log, taken_in, counts_in, mark_at}
 
 bad_inode : BadInode ≢ VersionEnd
 bad_inode e = cc
@@ -32,7 +31,8 @@ module _ (lists : Contents) (layout : Layout) (state : State) (image : Image) (p
   numbered place block taken =
       let at = taken_in lists layout state image part place block taken in
       let one = slice_index_or (chained layout) place no_block in
-      subst (λ b. IsNumbered layout (record { at = one.at; block = b })) (sym at.1) (at_place (IsNumbered layout) (chained layout) place no_block part.keeps.nids.log (in_log lists layout state image part place at.0))
+      subst (λ b. IsNumbered layout (record { at = one.at; block = b })) (sym at.1)
+      (part.keeps.nids.log place (in_log lists layout state image part place at.0) (counts_in lists layout state image part place block taken))
 
   nid_of : (ino offset nid : ℕ) → HasNid image layout.base.point ino offset nid → map.get layout.nids (ino, offset) ≡ Some nid
   nid_of ino offset nid (faults.in_base is) = part.keeps.nids.base ino offset nid (part.alike.back.node ino offset nid is)
