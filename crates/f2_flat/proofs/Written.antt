@@ -31,8 +31,9 @@ use Rattle.f2_laws.proofs.Passed.{passed}
 use Rattle.f2_laws.proofs.Places.{same_or_other, put_or_other}
 use Rattle.f2_laws.proofs.Walks.{some_same, walk_ends}
 use Rattle.f2_dir.specs.Entries.{Entries}
-use Rattle.f2_pieces.specs.Fresh.{EndWithin, fresh_pages}
-use Rattle.f2_reference_calls.specs.Given.{MOST_SIZE}
+use Rattle.f2_pieces.specs.Fresh.{fresh_pages}
+use Rattle.f2_spans.specs.Spans.{EndWithin}
+use Rattle.f2_spans.specs.Spans.{MOST_SIZE}
 use Rattle.f2_flat.specs.Flat.{IsFlat, IsRootFile, FILE_SIZE, limits_of}
 use Rattle.f2_flat.specs.Calls.{IsRefused, IsWritten}
 use Rattle.f2_flat.specs.Kept.{HasRootFiles, BindsNames, AreCounts, IsKept, slots_of_row, slots_of_tree, pages_of_row, pages_of_tree}

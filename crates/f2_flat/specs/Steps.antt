@@ -15,7 +15,8 @@ use Rattle.f2_model.specs.declared.replies.Reply.{Reply}
 use Rattle.f2_model.specs.declared.replies.Reply.TheVariants.{NoSpace, Memory}
 use Rattle.f2_model.specs.declared.replies.Space.{Space}
 use Rattle.f2_model.specs.declared.replies.Space.TheVariants.{Data}
-use Rattle.f2_pieces.specs.Fresh.{EndWithin, fresh_pages}
+use Rattle.f2_pieces.specs.Fresh.{fresh_pages}
+use Rattle.f2_spans.specs.Spans.{EndWithin}
 use Rattle.f2_flat.specs.Flat.{limits_of}
 
 -- the refusal of a zone that has to hold some blocks and grants fewer

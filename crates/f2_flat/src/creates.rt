@@ -13,8 +13,7 @@ use crate::counts::Counts;
 use crate::rooms::grant_data;
 use crate::walks::{walk, walk_parent};
 use f2_dir::Dir;
-use f2_model::{Kind, Name, Pages, Path, Reply, Row, Space, Tree};
-use f2_reference_calls::ROOT;
+use f2_model::{Kind, Name, Pages, Path, ROOT, Reply, Row, Space, Tree};
 use std::alloc::Global;
 
 /// The name of a file that may be made at a path, which is the path's last, or the first refusal.

@@ -17,9 +17,8 @@ use crate::takes::{counts_of, names_of};
 use crate::writes::{file_for, put_pieces};
 use f2_dir::Dir;
 use f2_layout::Geometry;
-use f2_model::{Kind, Name, Path, Piece, Reply, Tree};
+use f2_model::{Kind, Name, Path, Piece, ROOT, Reply, Tree};
 use f2_pieces::fresh;
-use f2_reference_calls::ROOT;
 use std::alloc::{AllocError, Global};
 use std::marker::Model;
 

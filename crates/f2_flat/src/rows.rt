@@ -6,8 +6,7 @@ ghost use Rattle.f2_flat.specs.Flat.{IsFlat, IsRootFile};
 ghost use Rattle.f2_flat.specs.Kept.{IsFlatRow};
 
 use f2_layout::Geometry;
-use f2_model::{Kind, Row, Tree};
-use f2_reference_calls::ROOT;
+use f2_model::{Kind, ROOT, Row, Tree};
 
 /// The most bytes of a file: those of the pages that an inode has addresses for.
 pub(crate) const FILE_SIZE: u64 = 3_780_608;

@@ -5,8 +5,7 @@ ghost use Rattle.f2_flat.specs.Kept.{AreCounts, slots_of_tree, pages_of_tree, wi
 
 use crate::counts::{Counts, slots_of};
 use f2_dir::Dir;
-use f2_model::{Kind, Row, Tree};
-use f2_reference_calls::ROOT;
+use f2_model::{Kind, ROOT, Row, Tree};
 use std::alloc::{AllocError, Global};
 
 /// Binds the name of a row to its ino; the root has no name. An error leaves the names as they were.

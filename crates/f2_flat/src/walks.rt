@@ -6,8 +6,7 @@ ghost use Rattle.f2_model.specs.Call.{walk_parent};
 ghost use Rattle.f2_flat.specs.Kept.{HasRootFiles, BindsNames};
 
 use f2_dir::Dir;
-use f2_model::{Kind, Name, Reply, Row, Tree};
-use f2_reference_calls::ROOT;
+use f2_model::{Kind, Name, ROOT, Reply, Row, Tree};
 
 /// The file under a name in the root.
 fn child<'a>(tree: &'a Tree, names: &Dir, name: &Name) -> Option<&'a Row>

@@ -5,16 +5,17 @@ ghost use Rattle.std.specs.FinMap as map;
 ghost use Rattle.f2_format.specs.Geometry.{Extent};
 ghost use Rattle.f2_model.specs.Content.{end_of};
 ghost use Rattle.f2_model.specs.declared.rows.Row as row;
-ghost use Rattle.f2_pieces.specs.Fresh.{EndWithin, fresh_pages};
+ghost use Rattle.f2_pieces.specs.Fresh.{fresh_pages};
+ghost use Rattle.f2_spans.specs.Spans.{EndWithin};
 ghost use Rattle.f2_flat.specs.Kept.{HasRootFiles, BindsNames};
 ghost use Rattle.f2_flat.specs.Steps.{FindsFile, TakesPieces, row_with, with_pieces};
 
 use crate::rows::FILE_SIZE;
 use crate::walks::walk;
 use f2_dir::Dir;
-use f2_model::{Kind, Name, Pages, Path, Piece, Reply, Row, Tree};
+use f2_model::{Kind, Name, Pages, Path, Piece, ROOT, Reply, Row, Tree};
 use f2_pieces::put;
-use f2_reference_calls::{ROOT, raised_size};
+use f2_spans::raised_size;
 use std::alloc::{AllocError, Global};
 
 /// Whether a piece ends past the longest file.

@@ -2,10 +2,10 @@
 ghost use Rattle.std.specs.Prelude.{IfOk};
 ghost use Rattle.f2_reference_calls.specs.Given.{IsFitting};
 
-use f2_model::{Kind, Limits, Name, Pages, Path, Reply, Request, Row, Tree};
+use f2_model::{Kind, Limits, Name, Pages, Path, ROOT, Reply, Request, Row, Tree};
 use f2_reference_calls::{
-    ROOT, answer, copy_row, copy_tree, data_of_row, data_of_tree, direct_of, has_direct,
-    nodes_of_row, nodes_of_tree, outcome, refusal, removed, space_refusal, touched, walk_parent,
+    answer, copy_row, copy_tree, data_of_row, data_of_tree, direct_of, has_direct, nodes_of_row,
+    nodes_of_tree, outcome, refusal, removed, space_refusal, touched, walk_parent,
 };
 use std::alloc::{AllocError, Global};
 

@@ -1,14 +1,9 @@
 -- The pages that a write brings to a file.
-use Rattle.std.specs.Prelude.{ℕ, ◌≤◌, not, All, List}
+use Rattle.std.specs.Prelude.{ℕ, not, List}
 use Rattle.std.specs.List.{filter}
 use Rattle.std.specs.FinMap as map
-use Rattle.f2_model.specs.Content.{PageMap, end_of, put_pieces}
+use Rattle.f2_model.specs.Content.{PageMap, put_pieces}
 use Rattle.f2_model.specs.declared.requests.Piece.{Piece}
-use Rattle.f2_reference_calls.specs.Given.{MOST_SIZE}
-
--- no piece ends past the last byte that a file's pages have room for
-abbrev pub EndWithin : List Piece → Type 0
-EndWithin pieces = All (λ piece. end_of piece ≤ MOST_SIZE) pieces
 
 -- the pages that a file has once pieces are put and doesn't have before, rising
 abbrev pub fresh_pages : PageMap → List Piece → List ℕ

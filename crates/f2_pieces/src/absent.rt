@@ -2,12 +2,12 @@
 ghost use Rattle.std.specs.Prelude.{◌≡◌, ◌≤◌, [], IfOk, OnOk};
 ghost use Rattle.std.specs.FinMap as map;
 ghost use Rattle.f2_model.specs.Content.{end_of, pages_of_piece};
-ghost use Rattle.f2_reference_calls.specs.Given.{MOST_SIZE};
+ghost use Rattle.f2_spans.specs.Spans.{MOST_SIZE};
 ghost use Rattle.f2_pieces.specs.Absent.{with_absent, with_absent_of};
-ghost use Rattle.f2_pieces.specs.Fresh.{EndWithin};
+ghost use Rattle.f2_spans.specs.Spans.{EndWithin};
 
 use f2_model::{Pages, Piece};
-use f2_reference_calls::pages_of_piece;
+use f2_spans::pages_of_piece;
 use std::alloc::{AllocError, Global};
 use std::collections::BTreeSet;
 

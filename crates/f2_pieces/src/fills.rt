@@ -2,12 +2,12 @@
 ghost use Rattle.std.specs.Prelude.{◌≡◌, ◌≤◌, IsSome};
 ghost use Rattle.std.specs.FinMap as map;
 ghost use Rattle.f2_model.specs.Content.{end_of, put_in_page, put_piece, put_pieces};
-ghost use Rattle.f2_reference_calls.specs.Given.{MOST_SIZE, Reaches};
-ghost use Rattle.f2_pieces.specs.Fresh.{EndWithin};
+ghost use Rattle.f2_spans.specs.Spans.{MOST_SIZE, Reaches};
+ghost use Rattle.f2_spans.specs.Spans.{EndWithin};
 ghost use Rattle.f2_pieces.specs.Held.{HasPagesOf};
 
 use f2_model::{Pages, Piece};
-use f2_reference_calls::pages_of_piece;
+use f2_spans::pages_of_piece;
 
 /// The bytes of a page.
 const PAGE: u64 = 4096;

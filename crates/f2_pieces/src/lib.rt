@@ -11,7 +11,8 @@
 ghost use Rattle.std.specs.Prelude.{◌≡◌, ◌+◌, length, IfOk, OnErr, OnOk};
 ghost use Rattle.std.specs.FinMap as map;
 ghost use Rattle.f2_model.specs.Content.{put_pieces};
-ghost use Rattle.f2_pieces.specs.Fresh.{EndWithin, fresh_pages};
+ghost use Rattle.f2_pieces.specs.Fresh.{fresh_pages};
+ghost use Rattle.f2_spans.specs.Spans.{EndWithin};
 
 mod absent;
 mod fills;

@@ -4,8 +4,7 @@ ghost use Rattle.f2_reference_calls.specs.Given.{IsKeyed};
 ghost use Rattle.f2_plain_check.specs.Parts.{AreApart};
 
 use crate::rows::rows_of;
-use f2_model::Tree;
-use f2_reference_calls::ROOT;
+use f2_model::{ROOT, Tree};
 use std::alloc::{AllocError, Global};
 use std::collections::BTreeSet;
 

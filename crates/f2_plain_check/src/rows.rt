@@ -5,8 +5,7 @@ ghost use Rattle.f2_reference_calls.specs.Given.{IsKeyed, rows_at};
 ghost use Rattle.f2_plain_check.specs.Parts.{IsSoAt, HasIno, HasRoot, HasParent, IsNamed, IsNumbered, StandsWithin, IsReached, HasPlace};
 
 use f2_layout::Geometry;
-use f2_model::{Kind, Row, Tree};
-use f2_reference_calls::ROOT;
+use f2_model::{Kind, ROOT, Row, Tree};
 use std::alloc::{AllocError, Global};
 
 /// The least ino of a row but the root.

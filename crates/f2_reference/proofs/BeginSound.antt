@@ -14,7 +14,8 @@ use Rattle.f2_model.specs.Call.{refusal, effect, space_refusal}
 use Rattle.f2_model.specs.Fallback.{fallback}
 use Rattle.f2_model.specs.State.{State, from_both_rows, from_row, dirtied, touched, removed, marked_dirty}
 use Rattle.f2_model.specs.Step.{Turn, Serves, BeginsCheck, BeginsFsync, TakesEffect, ReadFails, adds_row, called, told_at_once, least_in_flight, calm}
-use Rattle.f2_reference_calls.specs.Given.{MOST_SIZE, IsFitting}
+use Rattle.f2_reference_calls.specs.Given.{IsFitting}
+use Rattle.f2_spans.specs.Spans.{MOST_SIZE}
 use Rattle.f2_reference_calls.proofs.Fitting.{fitting_after}
 use Rattle.f2_reference_state.specs.Seen.{Seen, after_turn}
 use Rattle.f2_reference.specs.Begins.{BeginsBy}

@@ -8,7 +8,8 @@ use Rattle.std.specs.FinMap as map
 use Rattle.f2_model.specs.declared.rows.Row.{Row}
 use Rattle.f2_model.specs.Tree.{Rows}
 use Rattle.f2_model.specs.State.{Mark, rolled}
-use Rattle.f2_reference_calls.specs.Given.{MOST_SIZE, IsFitting}
+use Rattle.f2_reference_calls.specs.Given.{IsFitting}
+use Rattle.f2_spans.specs.Spans.{MOST_SIZE}
 use Rattle.f2_reference.specs.Sound.{IsFittingMark}
 
 -- what holds of all holds of the first

@@ -17,7 +17,8 @@ use Rattle.f2_model.specs.declared.events.Event.TheVariants.{Go, Mount}
 use Rattle.f2_model.specs.declared.events.Answer.{Answer}
 use Rattle.f2_model.specs.declared.events.Answer.TheVariants.{Stepped}
 use Rattle.f2_model.specs.Step.{Turn, calm, MOUNT_SEAT, StepGo, StepCheck, Writes, Flushes, found, turn_with, completes, unchanged, step_failed}
-use Rattle.f2_reference_calls.specs.Given.{MOST_SIZE, IsFitting}
+use Rattle.f2_reference_calls.specs.Given.{IsFitting}
+use Rattle.f2_spans.specs.Spans.{MOST_SIZE}
 use Rattle.f2_reference_state.specs.Seen.{Seen, told, after_turn}
 use Rattle.f2_reference.specs.declared.choices.MarksKept.TheVariants.{Fewest}
 use Rattle.f2_reference.specs.declared.choices.Choices.{Choices}

@@ -10,7 +10,8 @@ use Rattle.f2_model.specs.declared.histories.Entry.TheVariants as entry
 use Rattle.f2_model.specs.declared.replies.Plan.TheVariants as plans
 use Rattle.f2_model.specs.declared.modes.Format.TheVariants.{Two}
 use Rattle.f2_model.specs.declared.modes.Mode.TheVariants.{Up}
-use Rattle.f2_reference_calls.specs.Given.{MOST_SIZE, IsFitting}
+use Rattle.f2_reference_calls.specs.Given.{IsFitting}
+use Rattle.f2_spans.specs.Spans.{MOST_SIZE}
 use Rattle.f2_reference_state.specs.Seen.{Seen}
 
 -- a marked row stands under its own ino, and is no longer than its pages have room for

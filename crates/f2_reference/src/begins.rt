@@ -13,7 +13,8 @@ ghost use Rattle.f2_model.specs.declared.replies.Plan.TheVariants as plans;
 ghost use Rattle.f2_reference.specs.Begins.{BeginsBy, ServesAtOnce, TookEffect, both_rows, file_to_sync, ino_of, is_unused, rows_changed};
 ghost use Rattle.f2_reference.specs.Choosing.{ComesTo};
 ghost use Rattle.f2_reference.specs.Sound.{IsSound};
-ghost use Rattle.f2_reference_calls.specs.Given.{MOST_SIZE, WritesWithin};
+ghost use Rattle.f2_reference_calls.specs.Given.{WritesWithin};
+ghost use Rattle.f2_spans.specs.Spans.{MOST_SIZE};
 ghost use Rattle.f2_reference_state.specs.Seen.{told, after_turn};
 
 use crate::choices::Choices;

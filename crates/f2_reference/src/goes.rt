@@ -8,12 +8,13 @@ ghost use Rattle.f2_model.specs.declared.events.Event.TheVariants as events;
 ghost use Rattle.f2_reference.specs.Choosing.{ComesTo};
 ghost use Rattle.f2_reference.specs.Going.{IsAt, GoesTo};
 ghost use Rattle.f2_reference.specs.Sound.{IsSound};
-ghost use Rattle.f2_reference_state.specs.Parts.{drawn_of, progress_of};
+ghost use Rattle.f2_flights.specs.Parts.{drawn_of, progress_of};
 
 use crate::choices::Choices;
+use f2_flights::{Drawn, Flight, Part, Progress, Slot};
 use f2_model::{Mode, Plan, Reply, Step};
 use f2_reference_calls::{copy_row, copy_tree};
-use f2_reference_state::{Drawn, Flight, Part, Plain, Progress, Slot};
+use f2_reference_state::Plain;
 use std::alloc::{AllocError, Global};
 
 /// The reply at the end of a checkpoint.

@@ -5,7 +5,7 @@ ghost use Rattle.f2_reference.specs.Choosing.{ComesTo};
 ghost use Rattle.f2_reference.specs.Events.{IsSeated};
 ghost use Rattle.f2_reference.specs.Sound.{IsPlain, made_by};
 ghost use Rattle.f2_reference.specs.Written.{written_place};
-ghost use Rattle.f2_reference_calls.specs.Given.{MOST_SIZE};
+ghost use Rattle.f2_spans.specs.Spans.{MOST_SIZE};
 
 use crate::begins::begin;
 use crate::choices::{Choices, MarksKept};

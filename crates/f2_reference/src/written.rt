@@ -3,9 +3,10 @@ ghost use Rattle.std.specs.Prelude.{◌≡◌, ◌&&◌, ◌||◌, is_some, IfOk
 ghost use Rattle.std.specs.Option.{option_map};
 ghost use Rattle.f2_model.specs.Step as machine;
 ghost use Rattle.f2_reference.specs.Written.{is_marked, lost_place, written_place};
-ghost use Rattle.f2_reference_state.specs.Parts.{flight_of, progress_of};
+ghost use Rattle.f2_flights.specs.Parts.{flight_of, progress_of};
 
-use f2_reference_state::{Flight, Part, Plain, Progress};
+use f2_flights::{Flight, Part, Progress};
+use f2_reference_state::Plain;
 use std::alloc::{AllocError, Global};
 
 /// Whether an fsync drew its mark, and this isn't written or has to wait for a block before it.

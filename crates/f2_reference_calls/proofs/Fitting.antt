@@ -18,7 +18,8 @@ use Rattle.f2_model.specs.declared.requests.Request.TheVariants.{Create, Mkdir, 
 use Rattle.f2_model.specs.declared.replies.Reply.{Reply}
 use Rattle.f2_laws.proofs.Values.{value_found}
 use Rattle.f2_laws.proofs.Passed.{passed}
-use Rattle.f2_reference_calls.specs.Given.{MOST_SIZE, IsFitting, WritesWithin}
+use Rattle.f2_reference_calls.specs.Given.{IsFitting, WritesWithin}
+use Rattle.f2_spans.specs.Spans.{MOST_SIZE}
 
 -- a row of a tree
 abbrev pub IsIn : Rows → Row → Type 0

@@ -1,9 +1,7 @@
 -- Lemmas on the calls.
-pub mod Ranges
 pub mod Cuts
 pub mod Copied
 pub mod Listed
-pub mod Agreed
 pub mod Counted
 pub mod Results
 pub mod Summed

@@ -1,22 +1,17 @@
 -- What the calls ask of what they are given.
-use Rattle.std.specs.Prelude.{◌≡◌, ℕ, ◌+◌, ◌*◌, ◌<◌, ◌≤◌, All, List, map, length, Some}
+use Rattle.std.specs.Prelude.{◌≡◌, ℕ, ◌≤◌, All, List, map, length, Some}
 use Rattle.std.specs.Borrow.{Bor}
 use Rattle.std.specs.List.{fold}
 use Rattle.std.specs.Ordering.{nat_cmp}
 use Rattle.std.specs.Cmp.Lexicographic.{slice_cmp}
 use Rattle.std.specs.FinMap as finite
 use Rattle.std.specs.FinSet as set
-use Rattle.f2_format.specs.Offsets.{page_limit}
-use Rattle.f2_model.specs.Content.{PAGE, end_of}
+use Rattle.f2_model.specs.Content.{end_of}
 use Rattle.f2_model.specs.Tree.{Rows, names_under}
 use Rattle.f2_model.specs.declared.rows.Row.{Row}
-use Rattle.f2_model.specs.declared.requests.Piece.{Piece}
 use Rattle.f2_model.specs.declared.requests.Request.{Request}
 use Rattle.f2_model.specs.declared.requests.Request.TheVariants.{Write}
-
--- the most bytes that a file's pages have room for (max_file_blocks of the kernel's fs/f2fs/super.c, in bytes)
-abbrev pub MOST_SIZE : ℕ
-MOST_SIZE = page_limit * PAGE
+use Rattle.f2_spans.specs.Spans.{MOST_SIZE}
 
 -- each row stands under its own ino
 abbrev pub IsKeyed : Rows → Type 0
@@ -31,11 +26,6 @@ pub record IsFitting (tree : Rows) : Type 0 where
 abbrev pub WritesWithin : ℕ → Request → Type 0
 WritesWithin size (Write path pieces) = All (λ piece. end_of piece ≤ size) pieces
 WritesWithin size _ = Unit {0}
-
--- a piece puts a byte into a page
-pub record Reaches (piece : Piece) (page : ℕ) : Type 0 where
-  pub before : page * PAGE < end_of piece
-  pub behind : piece.off < page * PAGE + PAGE
 
 -- the rows that references lead to
 abbrev pub rows_at : List (Bor Row) → List Row

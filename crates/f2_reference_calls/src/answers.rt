@@ -1,7 +1,8 @@
 //! The reply to a call that isn't refused.
 ghost use Rattle.std.specs.Prelude.{◌≡◌, ◌≤◌, Ok, IfOk};
 ghost use Rattle.f2_model.specs.Call.{answer, bytes_told, names_told};
-ghost use Rattle.f2_reference_calls.specs.Given.{MOST_SIZE, IsFitting};
+ghost use Rattle.f2_reference_calls.specs.Given.{IsFitting};
+ghost use Rattle.f2_spans.specs.Spans.{MOST_SIZE};
 
 use crate::contents::bytes_between;
 use crate::counts::rows_of;

@@ -1,14 +1,11 @@
 //! Bytes of files, page by page.
-ghost use Rattle.std.specs.Prelude.{◌≡◌, ℕ, ◌-◌, ◌<◌, ◌≤◌, All, IfOk, OnOk, OnErr};
-ghost use Rattle.std.specs.List.{range_with_len};
-ghost use Rattle.f2_model.specs.Content.{PAGE, page_of, byte_at, bytes_between, filled, end_of, pages_of_piece, put_in_page, put_piece, put_pieces, raised_size, cut_pages};
-ghost use Rattle.f2_reference_calls.specs.Given.{MOST_SIZE, Reaches};
+ghost use Rattle.std.specs.Prelude.{◌≡◌, ◌<◌, ◌≤◌, All, IfOk, OnOk, OnErr};
+ghost use Rattle.f2_model.specs.Content.{PAGE, page_of, byte_at, bytes_between, filled, end_of, put_in_page, put_piece, put_pieces, cut_pages};
+ghost use Rattle.f2_spans.specs.Spans.{MOST_SIZE, Reaches};
 
 use f2_model::{Block, Bytes, Pages, Piece};
+use f2_spans::{PAGE, pages_of_piece};
 use std::alloc::{AllocError, Global};
-
-/// The bytes of a page.
-pub(crate) const PAGE: u64 = 4096;
 
 /// What a page reads as: zeros where it isn't there.
 fn page_of(pages: &Pages, page: u32) -> Block
@@ -54,20 +51,6 @@ fn fill(page: &mut Block, from: usize, to: usize, byte: u8)
     page[from..to].fill(byte);
 }
 
-/// The pages that a piece reaches: the first of them, and the one behind the last.
-pub fn pages_of_piece(piece: &Piece) -> (u32, u32)
-    requires { end_of piece.now ≤ MOST_SIZE }
-    ensures pages { pages_of_piece piece.now ≡ range_with_len result.0 (result.1 - result.0) }
-    ensures reached { (page : ℕ) → result.0 ≤ page → page < result.1 → Reaches piece.now page }
-{
-    if piece.len == 0 {
-        return (0, 0);
-    }
-    let first = piece.off / PAGE;
-    let last = (piece.off + u64::from(piece.len) - 1) / PAGE;
-    (first as u32, last as u32 + 1)
-}
-
 /// Puts the part of a piece that lies in one page. Where memory is refused the pages stay as they were.
 fn put_in_page(pages: &mut Pages, piece: &Piece, page: u32) -> Result<(), AllocError>
     requires within { end_of piece.now ≤ MOST_SIZE }
@@ -104,16 +87,6 @@ pub(crate) fn put_pieces(pages: &mut Pages, pieces: &[Piece]) -> Result<(), Allo
         put_piece(pages, piece)?;
     }
     Ok(())
-}
-
-/// The end of the piece that reaches furthest, or the size where that is greater.
-pub fn raised_size(size: u64, pieces: &[Piece]) -> u64
-    requires { All (λ piece. end_of piece ≤ MOST_SIZE) pieces.now }
-    ensures { result ≡ raised_size size pieces.now }
-{
-    pieces.iter().fold(size, |most, piece| {
-        most.max(piece.off + u64::from(piece.len))
-    })
 }
 
 /// Takes out the pages that begin at a size or past it, and puts zeros into the rest of the page that it cuts.

@@ -4,12 +4,14 @@ ghost use Rattle.std.specs.FinMap as map;
 ghost use Rattle.f2_model.specs.Content.{end_of, put_pieces, raised_size, cut_pages};
 ghost use Rattle.f2_model.specs.Tree.{last_name, walk};
 ghost use Rattle.f2_model.specs.Call.{effect, refusal, new_row, on_row, walk_parent};
-ghost use Rattle.f2_reference_calls.specs.Given.{MOST_SIZE, IsFitting};
+ghost use Rattle.f2_reference_calls.specs.Given.{IsFitting};
+ghost use Rattle.f2_spans.specs.Spans.{MOST_SIZE};
 
-use crate::contents::{cut_pages, put_pieces, raised_size};
+use crate::contents::{cut_pages, put_pieces};
 use crate::copies::{copy_row, copy_tree};
 use crate::walks::{walk, walk_parent};
 use f2_model::{Kind, Limits, Name, Pages, Path, Piece, Request, Row, Tree};
+use f2_spans::raised_size;
 use std::alloc::{AllocError, Global};
 
 /// An equal copy of the last name of a path, empty for the root.

@@ -3,8 +3,7 @@
 //! [`outcome`] gives the reply to a call and the tree after it, just as `specs/Call.antt` of `f2_model` defines
 //! them. The parts of a call stand beside it, since a volume asks them apart: [`refusal`] first, then
 //! [`space_refusal`] of the tree that [`effect`] gives, then [`answer`]; [`touched`] and [`removed`] say which
-//! pages a call makes dirty and which it takes away; [`pages_of_piece`] and [`raised_size`] say what a write reaches;
-//! [`nodes_of_row`] and [`data_of_row`] count what rows take.
+//! pages a call makes dirty and which it takes away; [`nodes_of_row`] and [`data_of_row`] count what rows take.
 //! Lists are scanned wherever that is the plainest, and there is no disk.
 //!
 //! No call changes what it is given. Each allocates, and gives the allocator's error where memory is refused.
@@ -24,11 +23,10 @@ mod touches;
 mod walks;
 
 pub use answers::answer;
-pub use contents::{pages_of_piece, raised_size};
 pub use copies::{copy_row, copy_tree};
 pub use counts::{data_of_row, data_of_tree, nodes_of_row, nodes_of_tree};
 pub use effects::effect;
 pub use outcomes::{outcome, space_refusal};
 pub use refusals::refusal;
 pub use touches::{direct_of, has_direct, removed, touched};
-pub use walks::{ROOT, walk, walk_parent};
+pub use walks::{walk, walk_parent};

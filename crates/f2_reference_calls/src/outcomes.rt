@@ -3,7 +3,8 @@ ghost use Rattle.std.specs.Prelude.{◌≡◌, ◌≤◌, IfOk, nat_lt};
 ghost use Rattle.std.specs.Bool.{then_some};
 ghost use Rattle.f2_model.specs.Call.{outcome, space_refusal, space_wanted};
 ghost use Rattle.f2_model.specs.declared.replies.Reply.TheVariants.{NoSpace};
-ghost use Rattle.f2_reference_calls.specs.Given.{MOST_SIZE, IsFitting};
+ghost use Rattle.f2_reference_calls.specs.Given.{IsFitting};
+ghost use Rattle.f2_spans.specs.Spans.{MOST_SIZE};
 
 use crate::answers::answer;
 use crate::copies::copy_tree;

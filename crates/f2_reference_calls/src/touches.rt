@@ -1,14 +1,15 @@
 //! The pages that a call touches, those that it removes, and the direct nodes that they stand in.
-ghost use Rattle.std.specs.Prelude.{◌≡◌, ◌/◌, ◌%◌, ◌==◌, ◌≤◌, ◌&&◌, ◌++◌, ◌∷◌, [], if◌then◌else◌, not, nat_lt, All, IfOk, OnOk};
-ghost use Rattle.std.specs.List.{find, flat_map};
+ghost use Rattle.std.specs.Prelude.{◌≡◌, ◌/◌, ◌%◌, ◌==◌, ◌&&◌, ◌∷◌, [], if◌then◌else◌, not, nat_lt, IfOk};
+ghost use Rattle.std.specs.List.{find};
 ghost use Rattle.std.specs.FinMap as map;
 ghost use Rattle.f2_format.specs.Offsets as format;
-ghost use Rattle.f2_model.specs.Content.{PAGE, end_of, pages_of_piece};
+ghost use Rattle.f2_model.specs.Content.{PAGE};
 ghost use Rattle.f2_model.specs.State.{has_direct, removed, touched};
-ghost use Rattle.f2_reference_calls.specs.Given.{MOST_SIZE, WritesWithin};
+ghost use Rattle.f2_reference_calls.specs.Given.{WritesWithin};
+ghost use Rattle.f2_spans.specs.Spans.{MOST_SIZE};
 
-use crate::contents::{PAGE, pages_of_piece};
-use f2_model::{Pages, Piece, Request, Row};
+use f2_model::{Pages, Request, Row};
+use f2_spans::{PAGE, pages_of_pieces};
 use std::alloc::{AllocError, Global};
 
 /// The direct node in which a page of a file stands, or `None` where the inode has it.
@@ -32,18 +33,6 @@ pub fn has_direct(row: &Row, offset: u32) -> Result<bool, AllocError>
     )
 }
 
-/// Appends the pages that a piece reaches. After an error some of them may have been appended.
-fn push_pages(pages: &mut Vec<u32>, piece: &Piece) -> Result<(), AllocError>
-    requires { end_of piece.now ≤ MOST_SIZE }
-    ensures { OnOk result (pages.new.items ≡ pages.old.items ++ pages_of_piece piece.now) }
-{
-    let (first, end) = pages_of_piece(piece);
-    for page in first..end {
-        pages.push(page)?;
-    }
-    Ok(())
-}
-
 /// The first of some numbers that is a given one.
 fn find_number(numbers: &[u32], number: u64) -> Option<u32>
     ensures { result ≡ find (λ one. one == number) numbers.now }
@@ -60,18 +49,6 @@ fn number_of(pages: &Pages, page: u64) -> Result<Option<u32>, AllocError>
 {
     let numbers = pages.numbers()?;
     Ok(find_number(numbers.as_slice(), page))
-}
-
-/// The pages that pieces reach, piece by piece.
-fn pages_of_pieces(alloc: Global, pieces: &[Piece]) -> Result<Vec<u32>, AllocError>
-    requires { All (λ piece. end_of piece ≤ MOST_SIZE) pieces.now }
-    ensures { IfOk result (λ pages. pages.items ≡ flat_map pages_of_piece pieces.now) }
-{
-    let mut pages = Vec::new(alloc);
-    for piece in pieces {
-        push_pages(&mut pages, piece)?;
-    }
-    Ok(pages)
 }
 
 /// The page that a size cuts, where that page is there and the size is below the row's.

@@ -4,10 +4,7 @@ ghost use Rattle.std.specs.Option.{option_copied};
 ghost use Rattle.f2_model.specs.Tree.{child, is_in, stands_at, walk};
 ghost use Rattle.f2_model.specs.Call.{to_directory, walk_parent};
 
-use f2_model::{Kind, Name, Reply, Row, Tree};
-
-/// The ino of the root.
-pub const ROOT: u32 = 3;
+use f2_model::{Kind, Name, ROOT, Reply, Row, Tree};
 
 /// Whether a row stands under a name in a directory.
 fn stands_at(row: &Row, directory: u32, name: &Name) -> bool

@@ -9,9 +9,10 @@ ghost use Rattle.f2_reference_reasons.specs.Boths.{both_of};
 
 use crate::boths::Both;
 use crate::recovering::{recoverable, rows_of};
+use f2_flights::Inos;
 use f2_model::{Kind, Row};
 use f2_reference_calls::{data_of_row, nodes_of_row};
-use f2_reference_state::{Inos, Plain};
+use f2_reference_state::Plain;
 use std::alloc::{AllocError, Global};
 
 /// What a row takes among rows.

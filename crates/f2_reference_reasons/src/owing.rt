@@ -1,11 +1,12 @@
 //! What fsyncs have to write.
 ghost use Rattle.std.specs.Prelude.{◌≡◌, ◌^◌, ◌≤◌, ◌<◌, IfOk};
 ghost use Rattle.f2_model.specs.Fallback as machine;
-ghost use Rattle.f2_reference_state.specs.Parts.{flight_of};
+ghost use Rattle.f2_flights.specs.Parts.{flight_of};
 ghost use Rattle.f2_reference_reasons.specs.Boths.{both_of};
 
 use crate::boths::Both;
-use f2_reference_state::{Flight, Part, Plain, Progress};
+use f2_flights::{Flight, Part, Progress};
+use f2_reference_state::Plain;
 use std::alloc::{AllocError, Global};
 
 /// What one more fsync of a file has to write: its dirty pages, and its dirty direct nodes and the inode.

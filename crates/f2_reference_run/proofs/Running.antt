@@ -9,7 +9,7 @@ use Rattle.f2_model.specs.declared.bounds.Limits.{Limits}
 use Rattle.f2_model.specs.Step.{IsSeat}
 use Rattle.f2_model.specs.Run.{Happening}
 use Rattle.f2_model.specs.declared.requests.Request.{Request}
-use Rattle.f2_reference_calls.specs.Given.{MOST_SIZE}
+use Rattle.f2_spans.specs.Spans.{MOST_SIZE}
 use Rattle.f2_reference_state.specs.Seen.{Seen}
 use Rattle.f2_script.specs.declared.script.Line.{Line}
 use Rattle.f2_script.specs.declared.script.Line.TheVariants as verb

@@ -1,7 +1,7 @@
 -- That the lines of a script came to what a plain machine chooses.
 use Rattle.std.specs.Prelude.{◌≡◌, ℕ, List, [], ◌∷◌}
 use Rattle.f2_format.specs.Geometry.{Extent}
-use Rattle.f2_reference_calls.specs.Given.{MOST_SIZE}
+use Rattle.f2_spans.specs.Spans.{MOST_SIZE}
 use Rattle.f2_script.specs.declared.script.Line.{Line}
 use Rattle.f2_script.specs.declared.script.Line.TheVariants.{Skipped, Mkfs}
 use Rattle.f2_script.specs.declared.script.Grammar.TheVariants.{Plain}

@@ -5,7 +5,7 @@ use Rattle.f2_layout.specs.Refusal.{geometry_of}
 use Rattle.f2_model.specs.Step.{IsSeat, calm}
 use Rattle.f2_model.specs.Run.{Happening}
 use Rattle.f2_model.specs.declared.replies.Step.{Step}
-use Rattle.f2_reference_calls.specs.Given.{MOST_SIZE}
+use Rattle.f2_spans.specs.Spans.{MOST_SIZE}
 use Rattle.f2_script.specs.declared.script.Line.{Line}
 use Rattle.f2_script.specs.declared.script.Line.TheVariants as verb
 use Rattle.f2_script.specs.declared.script.Grammar.TheVariants.{Plain}

@@ -11,7 +11,7 @@ use Rattle.f2_model.specs.declared.replies.Reply.{Reply}
 use Rattle.f2_model.specs.declared.replies.Reply.TheVariants.{Roll, Cp, Synced}
 use Rattle.f2_model.specs.declared.replies.Step as step_type
 use Rattle.f2_model.specs.declared.replies.Step.TheVariants.{Flushed, Replied}
-use Rattle.f2_reference_calls.specs.Given.{MOST_SIZE}
+use Rattle.f2_spans.specs.Spans.{MOST_SIZE}
 use Rattle.f2_reference_state.specs.Seen.{Seen}
 use Rattle.f2_reference.specs.Choosing.{ComesTo}
 use Rattle.f2_reference.specs.Sound.{made_by}

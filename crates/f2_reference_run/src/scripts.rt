@@ -1,7 +1,7 @@
 //! Running a script.
 ghost use Rattle.std.specs.Prelude.{◌≡◌, false, IfOk, MatchResult, is_some};
 ghost use Rattle.f2_format.specs.Geometry.{node_third, data_third};
-ghost use Rattle.f2_reference_calls.specs.Given.{MOST_SIZE as most_size};
+ghost use Rattle.f2_spans.specs.Spans.{MOST_SIZE as most_size};
 ghost use Rattle.f2_script.specs.Steps.{made_spelling};
 ghost use Rattle.f2_script.specs.declared.script.Line.TheVariants as verb;
 ghost use Rattle.f2_play.specs.Lines.{ended, granted};

@@ -7,9 +7,9 @@ ghost use Rattle.f2_model.specs.State as machine;
 ghost use Rattle.f2_model.specs.declared.histories.Entry.TheVariants as entry;
 ghost use Rattle.f2_reference_state.specs.Seen.{told};
 
-use crate::inos::Inos;
 use crate::pairs::Pairs;
 use crate::plain::Plain;
+use f2_flights::Inos;
 use f2_model::{BoxedRequest, Entry, Outcome, Row, Tree};
 use std::alloc::{AllocError, Global};
 

@@ -6,8 +6,8 @@ ghost use Rattle.f2_model.specs.Step as machine;
 ghost use Rattle.f2_model.specs.declared.histories.Entry.TheVariants as entry;
 ghost use Rattle.f2_reference_state.specs.Seen.{told, after_turn};
 
-use crate::flights::{Flight, Part, Progress};
 use crate::plain::Plain;
+use f2_flights::{Flight, Part, Progress};
 use f2_model::{BoxedRequest, Entry, Format, MOUNT_SEAT, Mode, Plan, Tree};
 use std::alloc::AllocError;
 

@@ -5,14 +5,11 @@
 //! was drawn, a checkpoint is done, a mount found some marks. A call that is refused memory changes nothing. Which call
 //! comes when is for the layer above to decide.
 //!
-//! [`Pairs`], [`Inos`] and [`Flights`] are the sets and the map that the state is made of; what they give in order
-//! rises, as in the definitions.
+//! [`Pairs`] is a set of pages or direct nodes of files; what it gives in order rises, as in the definitions.
 #![tactic(auto)]
 
 mod calls;
 mod checks;
-mod flights;
-mod inos;
 mod marks;
 mod mounts;
 mod pairs;
@@ -20,8 +17,6 @@ mod plain;
 mod writes;
 
 pub use calls::Call;
-pub use flights::{Drawn, Flight, Flights, Part, Progress, Slot};
-pub use inos::Inos;
 pub use marks::Mark;
 pub use pairs::Pairs;
 pub use plain::Plain;

@@ -9,9 +9,9 @@ ghost use Rattle.f2_model.specs.declared.replies.Plan.TheVariants as plans;
 ghost use Rattle.f2_reference_state.specs.Parts.{mark_of};
 ghost use Rattle.f2_reference_state.specs.Seen.{after_turn};
 
-use crate::flights::{Flight, Flights};
 use crate::marks::Mark;
 use crate::plain::Plain;
+use f2_flights::{Flight, Flights};
 use f2_model::{Entry, Format, Log, MOUNT_SEAT, Mode, Plan, Tree};
 use std::alloc::{AllocError, Global};
 use std::mem;

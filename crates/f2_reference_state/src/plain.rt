@@ -4,10 +4,9 @@ ghost use Rattle.std.specs.Option.{option_copied};
 ghost use Rattle.f2_model.specs.State.{initial};
 ghost use Rattle.f2_reference_state.specs.Parts.{mark_of};
 
-use crate::flights::Flights;
-use crate::inos::Inos;
 use crate::marks::Mark;
 use crate::pairs::Pairs;
+use f2_flights::{Flights, Inos};
 use f2_model::{Format, Limits, Log, Mode, Tree};
 use std::alloc::Global;
 use std::marker::Model;

@@ -5,12 +5,12 @@ ghost use Rattle.std.specs.Option.{option_map};
 ghost use Rattle.f2_model.specs.State.{InFsync, in_nodes};
 ghost use Rattle.f2_model.specs.Step as machine;
 ghost use Rattle.f2_model.specs.declared.histories.Entry.TheVariants as entry;
-ghost use Rattle.f2_reference_state.specs.Parts.{flight_of, progress_of, slot_of};
+ghost use Rattle.f2_flights.specs.Parts.{flight_of, progress_of, slot_of};
 ghost use Rattle.f2_reference_state.specs.Seen.{told, after_turn};
 
-use crate::flights::{Drawn, Flight, Part, Progress, Slot};
 use crate::marks::Mark;
 use crate::plain::Plain;
+use f2_flights::{Drawn, Flight, Part, Progress, Slot};
 use f2_model::{Entry, Row};
 use std::alloc::AllocError;
 

@@ -2,7 +2,7 @@ use Rattle.std.proofs.Common.{◌+◌, ◌-◌, if◌then◌else◌, ap, sym, �
 use Rattle.std.specs.List.{range_with_len}
 use Rattle.std.specs.Ordering.{nat_cmp}
 use Rattle.std.specs.BTreeSet.{insert_key}
-use Rattle.f2_reference_calls.proofs.Ranges.{range_step}
+use Rattle.f2_spans.proofs.Ranges.{range_step}
 use Rattle.f2_pieces.specs.Absent.{with_absent}
 use Rattle.f2_pieces.proofs.absent.add_absent.Goals as goal
 use Rattle.f2_pieces.proofs.absent.add_absent.Goals.{then-not-has_page+in_ok-insert, else-not-has_page}

@@ -1,7 +1,7 @@
 use Rattle.std.proofs.Common.{◌+◌, ◌-◌, ap, sym, subst, ◌∙◌}
 use Rattle.std.specs.List.{fold, range_with_len}
 use Rattle.f2_model.specs.Content.{put_in_page, put_piece}
-use Rattle.f2_reference_calls.proofs.Ranges.{range_step}
+use Rattle.f2_spans.proofs.Ranges.{range_step}
 use Rattle.f2_pieces.specs.Held.{HasPagesOf}
 use Rattle.f2_pieces.proofs.Stays.{page_stays, next_page_there}
 use Rattle.f2_pieces.proofs.fills.fill_piece.Goals as goal

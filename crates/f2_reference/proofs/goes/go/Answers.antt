@@ -1,7 +1,7 @@
 use Rattle.std.proofs.Common.{◌≡◌, true, refl, sym, ap, ◌∙◌}
 use Rattle.std.specs.FinMap as map
 use Rattle.f2_model.specs.Step.{is_shut}
-use Rattle.f2_reference_state.specs.Parts.{flight_of}
+use Rattle.f2_flights.specs.Parts.{flight_of}
 use Rattle.f2_reference.proofs.GoSteps.{shut_told, none-GoesTo, closed-GoesTo}
 use Rattle.f2_reference.proofs.goes.go.Goals as goal
 

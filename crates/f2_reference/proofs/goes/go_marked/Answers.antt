@@ -5,7 +5,7 @@ use Rattle.std.specs.FinMap as map
 use Rattle.f2_model.specs.Lists.{least_number}
 use Rattle.f2_model.specs.State.{Marked}
 use Rattle.f2_model.specs.Step.{gap_below, open_position}
-use Rattle.f2_reference_state.specs.Parts.{part_of, progress_of, slot_of}
+use Rattle.f2_flights.specs.Parts.{part_of, progress_of, slot_of}
 use Rattle.f2_reference.proofs.GoSteps.{again-GoesTo, roll-GoesTo}
 use Rattle.f2_reference.proofs.goes.go_marked.Goals as goal
 

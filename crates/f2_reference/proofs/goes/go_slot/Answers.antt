@@ -1,6 +1,6 @@
 use Rattle.std.proofs.Common.{sym, ap, subst}
 use Rattle.std.specs.Option.{option_map}
-use Rattle.f2_reference_state.specs.Parts.{drawn_of, progress_of, slot_of}
+use Rattle.f2_flights.specs.Parts.{drawn_of, progress_of, slot_of}
 use Rattle.f2_reference.specs.Going.{GoesTo}
 use Rattle.f2_reference.proofs.GoSteps.{slot-GoesTo}
 use Rattle.f2_reference.proofs.goes.go_slot.Goals as goal

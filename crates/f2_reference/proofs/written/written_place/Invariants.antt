@@ -1,7 +1,7 @@
 use Rattle.std.proofs.Common.{◌≡◌, min, map as map_list, drop}
 use Rattle.std.specs.List.{fold, filter_map}
 use Rattle.f2_reference.specs.Written.{lost_place, written_place}
-use Rattle.f2_reference_state.specs.Parts.{flight_of}
+use Rattle.f2_flights.specs.Parts.{flight_of}
 use Rattle.f2_reference.proofs.written.written_place.Given as goal
 
 -- the least place so far, with those of the calls that are left, is the least of all

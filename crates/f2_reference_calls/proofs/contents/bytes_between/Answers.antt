@@ -1,7 +1,7 @@
 use Rattle.std.proofs.Common.{◌+◌, ◌-◌, ◌++◌, ◌∷◌, [], map, ap, sym, ◌∙◌, append_assoc}
 use Rattle.std.specs.List.{range_with_len}
 use Rattle.f2_model.specs.Content.{byte_at}
-use Rattle.f2_reference_calls.proofs.Ranges.{range_step}
+use Rattle.f2_spans.proofs.Ranges.{range_step}
 use Rattle.f2_reference_calls.proofs.contents.bytes_between.Goals as goal
 
 pub loop-offset-preserved : goal.loop-offset-preserved

@@ -1,7 +1,7 @@
 use Rattle.std.proofs.Common.{◌+◌, ◌-◌, ap, sym, ◌∙◌}
 use Rattle.std.specs.List.{fold, range_with_len}
 use Rattle.f2_model.specs.Content.{put_in_page}
-use Rattle.f2_reference_calls.proofs.Ranges.{range_step}
+use Rattle.f2_spans.proofs.Ranges.{range_step}
 use Rattle.f2_reference_calls.proofs.contents.put_piece.Goals as goal
 
 pub loop-page-preserved : goal.loop-page-preserved

@@ -1,6 +1,6 @@
 use Rattle.std.proofs.Common.{◌+◌, ◌-◌, ◌++◌, ◌∷◌, [], ap, sym, ◌∙◌, append_assoc}
 use Rattle.std.specs.List.{range_with_len}
-use Rattle.f2_reference_calls.proofs.Ranges.{range_step}
+use Rattle.f2_spans.proofs.Ranges.{range_step}
 use Rattle.f2_reference_calls.proofs.counts.numbers_to.Goals as goal
 
 pub loop-number-preserved : goal.loop-number-preserved

@@ -1,7 +1,7 @@
 use Rattle.std.proofs.Common.{◌≡◌, ◌*◌, ◌^◌, ◌≤◌, drop}
 use Rattle.std.specs.List.{fold}
 use Rattle.f2_model.specs.Fallback.{sum_of, owed_by, owed}
-use Rattle.f2_reference_state.specs.Parts.{flight_of}
+use Rattle.f2_flights.specs.Parts.{flight_of}
 use Rattle.f2_reference_reasons.specs.Boths.{both_of}
 use Rattle.f2_reference_reasons.proofs.owing.owed.Given as goal
 

@@ -2,7 +2,7 @@ use Rattle.std.proofs.Common.{◌≡◌, ◌∙◌, ◌++◌, List, ℕ, sym, ap
 use Rattle.std.specs.Prelude.{None}
 use Rattle.std.specs.Vec.Iter.{into_iter_items}
 use Rattle.f2_script.specs.declared.script.Line.{Line}
-use Rattle.f2_reference_calls.specs.Given.{MOST_SIZE}
+use Rattle.f2_spans.specs.Spans.{MOST_SIZE}
 use Rattle.f2_play.specs.Scripts.{PlaysFirst}
 use Rattle.f2_reference_run.specs.Chosen.{IsScriptChosen}
 use Rattle.f2_reference_run.proofs.Running.{Progress, progress_start, progress_step, progress_some, progress_end, progress_stops, on_success, on_failure, none_left}

@@ -1,6 +1,6 @@
 use Rattle.std.proofs.Common.{◌≡◌, ◌==◌, ℕ, List, subst, rules}
 use Rattle.std.specs.List.{count_by}
-use Rattle.f2_reference_state.proofs.SetViews.{pair_cmp_total, pair_cmp-IsAntisymmetric, keys-items}
+use Rattle.f2_flights.proofs.SetViews.{pair_cmp_total, pair_cmp-IsAntisymmetric, keys-items}
 use Rattle.f2_reference_state.proofs.pairs.Pairs.count_of.Goals as goal
 
 pub returns : goal.returns

@@ -1,4 +1,4 @@
-use Rattle.f2_reference_state.proofs.SetViews.{pair_cmp_total, pair_cmp-IsAntisymmetric, keys-empty}
+use Rattle.f2_flights.proofs.SetViews.{pair_cmp_total, pair_cmp-IsAntisymmetric, keys-empty}
 use Rattle.f2_reference_state.proofs.pairs.Pairs.is_empty.Goals as goal
 
 pub returns : goal.returns

@@ -2,7 +2,7 @@ use Rattle.std.proofs.Common.{ℕ, ◌==◌, not, ◌∙◌, ap, rules, tests}
 use Rattle.std.specs.List.{find, list_any}
 use Rattle.std.proofs.lemmas.Iterator.Search.{find_from_yields_List}
 use Rattle.std.proofs.lemmas.Iterator.Consumers.{YieldsList-from_rest}
-use Rattle.f2_reference_state.proofs.SetViews.{pair_cmp_total, pair_cmp-IsAntisymmetric, keys-items}
+use Rattle.f2_flights.proofs.SetViews.{pair_cmp_total, pair_cmp-IsAntisymmetric, keys-items}
 use Rattle.f2_reference_state.proofs.pairs.Pairs.least_outside.Goals as goal
 
 pub returns : goal.returns

@@ -1,6 +1,6 @@
 use Rattle.std.proofs.Common.{◌==◌, not, rules}
 use Rattle.std.proofs.lemmas.Fn.{filter_same}
-use Rattle.f2_reference_state.proofs.SetViews.{pair_cmp_total, pair_cmp-IsAntisymmetric, keys-retain}
+use Rattle.f2_flights.proofs.SetViews.{pair_cmp_total, pair_cmp-IsAntisymmetric, keys-retain}
 use Rattle.f2_reference_state.proofs.pairs.Pairs.remove_ino.Goals as goal
 
 pub returns : goal.returns

@@ -1,0 +1,2 @@
+-- What contracts see of calls in flight.
+pub mod Parts

@@ -1,6 +1,0 @@
-use Rattle.f2_model.proofs.MapViews.{shown_seen-insert}
-use Rattle.f2_reference_state.specs.Parts.{flight_of}
-use Rattle.f2_reference_state.proofs.flights.Flights.insert.Goals as goal
-
-pub returns-clause-ok : goal.returns-clause-ok
-returns-clause-ok c = shown_seen-insert c.self.inside.flights.entries flight_of _ c.self.view_is _ c.args.seat c.args.flight c.in_ok-insert.ensures.updates.0

@@ -1,0 +1,2 @@
+-- Where pieces lie.
+pub mod Spans
