@@ -1,7 +1,7 @@
 //! The blocks of a file's nodes, as F2FS has them.
 //!
 //! The layer above makes any node of a file with [`node`], from what the file's inode says ([`NodeRow`]), where its
-//! pages are (`f2_index`'s `Index`) and the nids of its nodes ([`Nids`]): the block has then the bytes of that node
+//! pages are ([`PageAddresses`], which `f2_index`'s `Index` has) and the nids of its nodes ([`Nids`]): the block has then the bytes of that node
 //! up to its footer, which stays, and reads back as that node. [`routes_end_at_addresses`] says what all of them
 //! come to: in an image with these blocks the way of each page, from the inode down, ends at the page's address.
 //!
@@ -9,6 +9,7 @@
 //! `Routes` (the ways through an image), over `f2_format`'s `Inode` and `Offsets` and `f2_image`'s `Nodes`.
 #![tactic(auto)]
 
+mod addresses;
 mod blocks;
 mod laws;
 mod nids;
@@ -16,6 +17,7 @@ mod present;
 mod rows;
 mod tree;
 
+pub use addresses::PageAddresses;
 pub use blocks::node;
 pub use laws::{footers_change_no_reading, routes_end_at_addresses};
 pub use nids::Nids;

@@ -3,4 +3,4 @@ use Rattle.f2_blocks.proofs.Words.{AreFilled}
 use Rattle.f2_blocks.proofs.blocks.put_addresses.Given as goal
 
 abbrev pub invariant-loop-page : goal.invariant-loop-page
-invariant-loop-page l = AreFilled (address_of l.index.pages) l.page l.into
+invariant-loop-page g l = AreFilled (address_of (g.P.PageAddresses.addresses l.index)) l.page l.into

@@ -8,9 +8,9 @@ use Rattle.f2_blocks.proofs.Fields.{five_fit, padded-twice}
 use Rattle.f2_blocks.proofs.blocks.put_inode.Goals as goal
 
 pub returns-clause-reads_back : goal.returns-clause-reads_back
-returns-clause-reads_back c =
+returns-clause-reads_back g c =
     let row = c.args.row in
-    let pages = c.args.index.now.pages in
+    let pages = (g.P.PageAddresses.addresses c.args.index.now) in
     let nids : List ℕ = c.nid_of.result ∷ c.nid_of-2.result ∷ c.nid_of-3.result ∷ c.nid_of-4.result ∷ c.nid_of-5.result ∷ [] in
     let inode : Inode =
     record {

@@ -3,4 +3,4 @@ use Rattle.f2_blocks.proofs.Words.{Written}
 use Rattle.f2_blocks.proofs.blocks.put_slots.Given as goal
 
 abbrev pub invariant-loop-slot : goal.invariant-loop-slot
-invariant-loop-slot l = Written (word_in l.index.pages l.nids l.slots) l.slot l.initial.into l.into
+invariant-loop-slot g l = Written (word_in (g.P.PageAddresses.addresses l.index) l.nids l.slots) l.slot l.initial.into l.into

@@ -26,12 +26,12 @@ by_pages pages n first false low high are some none = by_test (set.contains (nod
         none (one.0, one.1, ap (λ p. map.contains_key pages (p + one.0)) are.is ∙ one.2)
 
 pub returns-in-Pages : goal.returns-in-Pages
-returns-in-Pages t c =
-    by_pages c.args.index.now.pages c.args.offset c.in-Pages.first c.has_page.result c.requires.below c.requires.limit c.in-Pages.ensures.slots c.has_page.ensures.0 c.has_page.ensures.1
+returns-in-Pages g t c =
+    by_pages (g.P.PageAddresses.addresses c.args.index.now) c.args.offset c.in-Pages.first c.has_page.result c.requires.below c.requires.limit c.in-Pages.ensures.slots c.has_page.ensures.0 c.has_page.ensures.1
 
 pub returns-then-has_node : goal.returns-then-has_node
-returns-then-has_node t c =
-    let pages = c.args.index.now.pages in
+returns-then-has_node g t c =
+    let pages = (g.P.PageAddresses.addresses c.args.index.now) in
     let are = c.in-Nodes.ensures.slots in
     let slot = c.loop-slot.slot in
     let at = are.each slot c.loop-slot-test.true in
@@ -50,5 +50,5 @@ none_below pages n first apart low are absent = by_test (set.contains (nodes_of_
         sym (absent one.0 one.1) ∙ ap (set.contains (nodes_of_pages pages)) (are.each one.0 one.1) ∙ one.2
 
 pub returns-after-loop-slot : goal.returns-after-loop-slot
-returns-after-loop-slot t c =
-    none_below c.args.index.now.pages c.args.offset c.in-Nodes.first c.in-Nodes.apart c.requires.below c.in-Nodes.ensures.slots (λ k h. c.loop-slot.invariant k (omega arith))
+returns-after-loop-slot g t c =
+    none_below (g.P.PageAddresses.addresses c.args.index.now) c.args.offset c.in-Nodes.first c.in-Nodes.apart c.requires.below c.in-Nodes.ensures.slots (λ k h. c.loop-slot.invariant k (omega arith))
