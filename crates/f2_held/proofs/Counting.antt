@@ -15,7 +15,7 @@ use Rattle.std.specs.FinSet as set
 use Rattle.std.proofs.lemmas.List.Sums.{sum_by-cons}
 use Rattle.f2_format.specs.Packing.{blocks_of_names}
 use Rattle.f2_format.specs.Offsets.{node_count}
-use Rattle.f2_model.specs.Tree.{Rows, is_directory, names_under, names_in}
+use Rattle.f2_model.specs.Tree.{Rows, is_directory, names_under}
 use Rattle.f2_model.specs.Fallback.{Both, greatest_of, of_directory, regular_inos, directory_inos}
 use Rattle.f2_model.specs.declared.rows.Row.{Row}
 use Rattle.f2_model.proofs.RisingLemmas.{rises, contains-rising}

@@ -3,12 +3,12 @@ use Rattle.std.proofs.Common.{◌≡◌, ℕ, Bool, true, false, cond, ◌&&◌,
 use Rattle.std.specs.Prelude.{T, is_some}
 use Rattle.std.specs.List.{sum_by, fold, AllByRecursion}
 use Rattle.std.specs.Option.{option_map, unwrap_or}
-use Rattle.std.specs.Ordering.{nat_cmp, is_eq, is_lt}
+use Rattle.std.specs.Ordering.{nat_cmp, eq_by_cmp, is_eq, is_lt}
 use Rattle.std.specs.Cmp.{nat_cmp_total}
 use Rattle.std.specs.declared.cmp.Ordering.{Ordering}
 use Rattle.std.specs.declared.cmp.Ordering.TheVariants.{Less, Equal, Greater}
 use Rattle.std.specs.FinMap as map
-use Rattle.std.specs.FinMap.{FinMap, entries, entries_sorted, entries-insert, get-entries, get-insert, len-entries, len-empty, nat_cmp-IsAntisymmetric, is_sorted, put, find}
+use Rattle.std.specs.FinMap.{FinMap, entries, entries_sorted, entries-insert, get-entries, get-insert, get-remove, len-entries, len-empty, nat_cmp-IsAntisymmetric, is_sorted, put, find}
 use Rattle.std.specs.FinMap.Entries.{below_all, by_order}
 use Rattle.std.proofs.lemmas.Cmp.{ranked}
 use Rattle.std.proofs.lemmas.Nat.{mul-le}
@@ -48,6 +48,14 @@ less_below a b h = go (nat_cmp a b) refl
     go Less e = e
     go Equal e = absurd (let same : a ≡ b = ranked a b Equal (sym e) in omega arith)
     go Greater e = absurd (let over : b < a = ranked a b Greater (sym e) in omega arith)
+
+self_equal : (k : ℕ) → nat_cmp k k ≡ Equal
+self_equal k = go (nat_cmp k k) refl
+  where
+    go : (o : Ordering) → nat_cmp k k ≡ o → nat_cmp k k ≡ Equal
+    go Less e = absurd (let lt = below_less k k e in omega arith)
+    go Greater e = absurd (let lt : k < k = ranked k k Greater (sym e) in omega arith)
+    go Equal e = e
 
 module _ {X : Type 0} where
   -- a key below all has no entry
@@ -209,6 +217,52 @@ module _ {X : Type 0} (f : X → Both) (m : FinMap nat_cmp X) where
         let pages : of_map.pages - (stands k).pages + (f v).pages ≡ (sum_of_all (map_list f (map.values (map.insert m k v)))).pages = omega (arith, stands_le.1, put_pages v) in
         λ i. record { nodes = nodes i; pages = pages i }
 
+-- a key that was taken out, and what stands at the others
+removed_here : {X : Type 0} (m : FinMap nat_cmp X) (k : ℕ) → map.get (map.remove m k) k ≡ None
+removed_here m k = get-remove nat_cmp_total m k k ∙ ap (λ o. cond (is_eq o) None (map.get m k)) (self_equal k)
+
+pub still_there : {X : Type 0} (m : FinMap nat_cmp X) (k q : ℕ) (v : X) → map.get (map.remove m k) q ≡ Some v → map.get m q ≡ Some v
+still_there m k q v is = go (eq_by_cmp nat_cmp q k) (sym (get-remove nat_cmp_total m k q) ∙ is)
+  where
+    go : (b : Bool) → cond b None (map.get m q) ≡ Some v → map.get m q ≡ Some v
+    go true e = absurd (some_none v (sym e))
+    go false e = e
+
+put_again : {X : Type 0} (m : FinMap nat_cmp X) (k : ℕ) (v : X) → map.get m k ≡ Some v → map.insert (map.remove m k) k v ≡ m
+put_again m k v there = map.same_map nat_cmp_total nat_cmp-IsAntisymmetric _ _ (λ q. get-insert nat_cmp_total (map.remove m k) k v q ∙ go q (nat_cmp q k) refl)
+  where
+    go : (q : ℕ) (o : Ordering) → nat_cmp q k ≡ o → cond (is_eq (nat_cmp q k)) (Some v) (map.get (map.remove m k) q) ≡ map.get m q
+    go q Less t = ap (λ o. cond (is_eq o) (Some v) (map.get (map.remove m k) q)) t ∙ get-remove nat_cmp_total m k q ∙ ap (λ o. cond (is_eq o) None (map.get m q)) t
+    go q Greater t = ap (λ o. cond (is_eq o) (Some v) (map.get (map.remove m k) q)) t ∙ get-remove nat_cmp_total m k q ∙ ap (λ o. cond (is_eq o) None (map.get m q)) t
+    go q Equal t = ap (λ o. cond (is_eq o) (Some v) (map.get (map.remove m k) q)) t ∙ sym there ∙ ap (map.get m) (sym (ranked q k Equal (sym t)))
+
+-- what isn't there is not taken out
+pub nothing_removed : {X : Type 0} (m : FinMap nat_cmp X) (k : ℕ) → map.get m k ≡ None → map.remove m k ≡ m
+nothing_removed m k none = map.same_map nat_cmp_total nat_cmp-IsAntisymmetric _ _ (λ q. get-remove nat_cmp_total m k q ∙ go q (nat_cmp q k) refl)
+  where
+    go : (q : ℕ) (o : Ordering) → nat_cmp q k ≡ o → cond (is_eq (nat_cmp q k)) None (map.get m q) ≡ map.get m q
+    go q Less t = ap (λ o. cond (is_eq o) None (map.get m q)) t
+    go q Greater t = ap (λ o. cond (is_eq o) None (map.get m q)) t
+    go q Equal t = ap (λ o. cond (is_eq o) None (map.get m q)) t ∙ sym none ∙ ap (map.get m) (sym (ranked q k Equal (sym t)))
+
+-- nothing in the place of what stood at a key, which is taken out
+pub out_map : {X : Type 0} (f : X → Both) (m : FinMap nat_cmp X) (k : ℕ) → in_place (of_map f m) (stands f m k) nothing ≡ sum_of_all (map_list f (map.values (map.remove m k)))
+out_map {X} f m k = go (map.get m k) refl
+  where
+    go : (o : Option X) → map.get m k ≡ o → in_place (of_map f m) (unwrap_or (option_map f (map.get m k)) nothing) nothing ≡ of_map f (map.remove m k)
+    go None none =
+        rw none (
+        let nodes : (of_map f m).nodes - 0 + 0 ≡ (of_map f (map.remove m k)).nodes = omega (arith, ap (λ n. (of_map f n).nodes) (nothing_removed m k none)) in
+        let pages : (of_map f m).pages - 0 + 0 ≡ (of_map f (map.remove m k)).pages = omega (arith, ap (λ n. (of_map f n).pages) (nothing_removed m k none)) in
+        λ i. record { nodes = nodes i; pages = pages i })
+    go (Some v) there =
+        let whole = put_map f (map.remove m k) k v ∙ ap (of_map f) (put_again m k v there) in
+        let gone = ap (λ o. unwrap_or (option_map f o) nothing) (removed_here m k) in
+        rw there (
+        let nodes : (of_map f m).nodes - (f v).nodes + 0 ≡ (of_map f (map.remove m k)).nodes = omega (arith, ap (λ b. b.nodes) whole, ap (λ b. b.nodes) gone) in
+        let pages : (of_map f m).pages - (f v).pages + 0 ≡ (of_map f (map.remove m k)).pages = omega (arith, ap (λ b. b.pages) whole, ap (λ b. b.pages) gone) in
+        λ i. record { nodes = nodes i; pages = pages i })
+
 -- the same of files, whose numbers are the values
 pub as_they_are : (xs : List Both) → map_list (λ x. x) xs ≡ xs
 as_they_are [] = refl
@@ -242,6 +296,9 @@ module _ (m : FinMap nat_cmp Both) where
 
     pub put_files : (v : Both) → in_place (of_files m) (size_of m k) v ≡ of_files (map.insert m k v)
     put_files v = sym (λ i. in_place (files_are m i) (size_is (map.get m k) i) v) ∙ put_map (λ x. x) m k v ∙ files_are (map.insert m k v)
+
+pub out_files : (m : FinMap nat_cmp Both) (k : ℕ) → in_place (of_files m) (size_of m k) nothing ≡ of_files (map.remove m k)
+out_files m k = sym (λ i. in_place (files_are m i) (size_is (map.get m k) i) nothing) ∙ out_map (λ x. x) m k ∙ files_are (map.remove m k)
 
 no_entry : {X : Type 0} (es : List X) → length es ≡ 0 → es ≡ []
 no_entry [] e = refl
@@ -283,6 +340,9 @@ module _ (m : FinMap nat_cmp Both) (sum : Both) (is : IsSizes m sum) (k : ℕ) (
   pub IsSizes-put : (v : Both) → k < 2 ^ 32 → IsSmall v → IsSizes (map.insert m k v) (in_place sum stood v)
   IsSizes-put v key small = record { sum_is = sizes_put v; small = each_put (λ q w. (q < 2 ^ 32) × IsSmall w) m k v is.small (key, small) }
 
+  pub IsSizes-out : IsSizes (map.remove m k) (in_place sum stood nothing)
+  IsSizes-out = record { sum_is = (λ i. in_place (is.sum_is i) (stands_there i) nothing) ∙ out_files m k; small = λ q w at. is.small q w (still_there m k q w at) }
+
 module _ (m : FinMap nat_cmp Names) (sum : Both) (is : IsDirectories m sum) (k : ℕ) (stood : Both) (stands_there : stood ≡ unwrap_or (option_map of_names (map.get m k)) nothing) where
   pub directories_le : (stood.nodes ≤ sum.nodes) × (stood.pages ≤ sum.pages)
   directories_le =
@@ -294,6 +354,9 @@ module _ (m : FinMap nat_cmp Names) (sum : Both) (is : IsDirectories m sum) (k :
 
   pub IsDirectories-put : (v : Names) → k < 2 ^ 32 → IsSmall (of_names v) → IsDirectories (map.insert m k v) (in_place sum stood (of_names v))
   IsDirectories-put v key small = record { sum_is = directories_put v; small = each_put (λ q w. (q < 2 ^ 32) × IsSmall (of_names w)) m k v is.small (key, small) }
+
+  pub IsDirectories-out : IsDirectories (map.remove m k) (in_place sum stood nothing)
+  IsDirectories-out = record { sum_is = (λ i. in_place (is.sum_is i) (stands_there i) nothing) ∙ out_map of_names m k; small = λ q w at. is.small q w (still_there m k q w at) }
 
 pub directories_sum : (m : FinMap nat_cmp Names) (sum : Both) → IsDirectories m sum → IsSmallSum sum
 directories_sum m sum is = subst IsSmallSum (sym is.sum_is) (small_map of_names m is.small)
@@ -335,14 +398,6 @@ opened_new m k none = sym (ap (λ o. map.insert m k (unwrap_or o map.empty)) non
 pub is_none : {X : Type 0} (o : Option X) → is_some o ≡ false → o ≡ None
 is_none None e = refl
 is_none (Some x) e = absurd (cc)
-
-self_equal : (k : ℕ) → nat_cmp k k ≡ Equal
-self_equal k = go (nat_cmp k k) refl
-  where
-    go : (o : Ordering) → nat_cmp k k ≡ o → nat_cmp k k ≡ Equal
-    go Less e = absurd (let lt = below_less k k e in omega arith)
-    go Greater e = absurd (let lt : k < k = ranked k k Greater (sym e) in omega arith)
-    go Equal e = e
 
 -- a directory that came in, and one that got a name, is in
 pub opened_has : (m : FinMap nat_cmp Names) (k : ℕ) → map.contains_key (opened m k) k ≡ true

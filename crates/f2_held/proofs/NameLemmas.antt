@@ -1,7 +1,7 @@
 -- Names in order, and how far they fill a directory.
 use Rattle.std.proofs.Common.{◌≡◌, inl, inr, ℕ, zero, suc, Bool, true, false, cond, ◌&&◌, ◌^◌, ◌<◌, ◌≤◌, List, [], ◌∷◌, ◌++◌, map as map_list, length, take, drop, get_or, refl, sym, ap, subst, ◌∙◌, arith, Some, None, Option, Ok, Err}
 use Rattle.std.specs.Prelude.{T, is_some}
-use Rattle.std.specs.List.{AllByRecursion, HoldsAt}
+use Rattle.std.specs.List.{AllByRecursion, HoldsAt, remove}
 use Rattle.std.specs.List.Sorted.{IsStrictlySortedBy, IsBinarySearchResult, IsNonDecreasingBy, IsPartitionPoint}
 use Rattle.std.specs.Ordering.{nat_cmp, eq_by_cmp, is_eq, is_lt, ordering_index, ordering_reverse}
 use Rattle.std.specs.Cmp.{alike_right}
@@ -15,9 +15,10 @@ use Rattle.std.specs.declared.cmp.Ordering.TheVariants.{Less, Equal, Greater}
 use Rattle.std.specs.FinMap as map
 use Rattle.std.specs.FinMap.{entries, entries-insert, same_entries_map, put, find, is_sorted, nat_cmp-IsAntisymmetric, slice_cmp-IsAntisymmetric}
 use Rattle.std.specs.FinMap.Entries.{by_order, below_all}
-use Rattle.f2_format.specs.Packing.{Reach, nothing_packed, place_after, place_after_all, place_reached, blocks_of_names}
-use Rattle.f2_held.specs.Taken.{Names, names_from, and_name, of_names}
-use Rattle.f2_held.specs.Sums.{IsNameSet, IsPlaceFor, with_at, of_blocks}
+use Rattle.f2_format.specs.Packing.{IsSublist, none, kept, left_out, Reach, nothing_packed, place_after, place_after_all, place_reached, blocks_of_names}
+use Rattle.f2_format.proofs.PackingLemmas.{sublist_no_further}
+use Rattle.f2_held.specs.Taken.{Names, names_from, and_name, without_name, of_names}
+use Rattle.f2_held.specs.Sums.{IsNameSet, IsPlaceFor, IsPlaceOf, with_at, of_blocks}
 
 pub place_after_all-append : (reach : Reach) (xs ys : List (List ℕ)) → place_after_all reach (xs ++ ys) ≡ place_after_all (place_after_all reach xs) ys
 place_after_all-append reach [] ys = refl
@@ -200,3 +201,112 @@ reached-behind names reach at name is end =
     ap (λ r. place_after r name) is.reached
     ∙ sym (place_after_all-append nothing_packed names (name ∷ []))
     ∙ sym (λ i. place_reached (front i ++ name ∷ back i))
+
+-- a list without the name at a place
+all_removed : (P : List ℕ → Type 0) (names : List (List ℕ)) (at : ℕ) → AllByRecursion P names → AllByRecursion P (remove names at)
+all_removed P [] zero all = tt
+all_removed P [] (suc at) all = tt
+all_removed P (x ∷ xs) zero all = all.1
+all_removed P (x ∷ xs) (suc at) all = (all.0, all_removed P xs at all.1)
+
+sorted_without : (names : List (List ℕ)) (at : ℕ) → IsStrictlySortedBy (slice_cmp nat_cmp) names → IsStrictlySortedBy (slice_cmp nat_cmp) (remove names at)
+unfolding IsStrictlySortedBy
+sorted_without [] zero sorted = tt
+sorted_without [] (suc at) sorted = tt
+sorted_without (x ∷ xs) zero sorted = sorted.1
+sorted_without (x ∷ xs) (suc at) sorted = (all_removed (λ y. slice_cmp nat_cmp x y ≡ Less) xs at sorted.0, sorted_without xs at sorted.1)
+
+sublist_itself : (names : List (List ℕ)) → IsSublist names names
+sublist_itself [] = none
+sublist_itself (x ∷ xs) = kept x (sublist_itself xs)
+
+sublist_without : (names : List (List ℕ)) (at : ℕ) → IsSublist (remove names at) names
+sublist_without [] zero = none
+sublist_without [] (suc at) = none
+sublist_without (x ∷ xs) zero = left_out x (sublist_itself xs)
+sublist_without (x ∷ xs) (suc at) = kept x (sublist_without xs at)
+
+-- how far names fill a directory without the one at a place
+pub reached-without : (names : List (List ℕ)) (at : ℕ) → place_after_all (place_after_all nothing_packed (take at names)) (drop (suc at) names) ≡ place_reached (remove names at)
+reached-without names at = sym (place_after_all-append nothing_packed (take at names) (drop (suc at) names))
+
+module _ (name : List ℕ) where
+  -- a name that all are above isn't found
+  find_above : (q : List ℕ) (names : List (List ℕ)) → AllByRecursion (λ y. slice_cmp nat_cmp q y ≡ Less) names → find (slice_cmp nat_cmp) q (pairs names) ≡ None
+  find_above q [] all = refl
+  find_above q (y ∷ ys) all = ap (λ o. cond (is_eq o) (Some tt) (find (slice_cmp nat_cmp) q (pairs ys))) all.0 ∙ find_above q ys all.1
+
+  same_here : (q x : List ℕ) → is_eq (slice_cmp nat_cmp q x) ≡ true → q ≡ x
+  same_here q x e = slice_cmp-IsAntisymmetric nat_cmp-IsAntisymmetric q x (equal_of name (slice_cmp nat_cmp q x) e)
+
+  less_than : (names : List (List ℕ)) (at : ℕ) (x : List ℕ) → at < length names → HoldsAt (λ y. cmp name y name ≡ Equal) names at → AllByRecursion (λ y. cmp name x y ≡ Less) names → cmp name x name ≡ Less
+  less_than [] at x within found all = absurd (omega arith)
+  less_than (y ∷ ys) zero x within found all = subst (λ z. cmp name x z ≡ Less) (slice_cmp-IsAntisymmetric nat_cmp-IsAntisymmetric y name (found y)) all.0
+  less_than (y ∷ ys) (suc at) x within found all = less_than ys at x (omega arith) (λ d. found d) all.1
+
+  find_without : (names : List (List ℕ)) (at : ℕ) → at < length names → IsStrictlySortedBy (cmp name) names → HoldsAt (λ y. cmp name y name ≡ Equal) names at → (q : List ℕ) → find (cmp name) q (pairs (remove names at)) ≡ cond (is_eq (cmp name q name)) None (find (cmp name) q (pairs names))
+  unfolding IsStrictlySortedBy
+  find_without [] at within sorted found q = absurd (omega arith)
+  find_without (x ∷ xs) zero within sorted found q = go (is_eq (cmp name q name)) refl
+    where
+      same : x ≡ name
+      same = slice_cmp-IsAntisymmetric nat_cmp-IsAntisymmetric x name (found x)
+
+      go : (b : Bool) → is_eq (cmp name q name) ≡ b → find (cmp name) q (pairs xs) ≡ cond b None (cond (is_eq (cmp name q x)) (Some tt) (find (cmp name) q (pairs xs)))
+      go true e = find_above q xs (subst (λ z. AllByRecursion (λ y. cmp name z y ≡ Less) xs) (same ∙ sym (same_here q name e)) sorted.0)
+      go false e = sym (ap (λ b. cond b (Some tt) (find (cmp name) q (pairs xs))) (ap (λ z. is_eq (cmp name q z)) same ∙ e))
+  find_without (x ∷ xs) (suc at) within sorted found q = go (find_without xs at (omega arith) sorted.1 (λ d. found d) q) (is_eq (cmp name q x)) refl
+    where
+      go : find (cmp name) q (pairs (remove xs at)) ≡ cond (is_eq (cmp name q name)) None (find (cmp name) q (pairs xs)) → (b : Bool) → is_eq (cmp name q x) ≡ b → cond b (Some tt) (find (cmp name) q (pairs (remove xs at))) ≡ cond (is_eq (cmp name q name)) None (cond b (Some tt) (find (cmp name) q (pairs xs)))
+      go rest true e =
+          let less : cmp name q name ≡ Less = subst (λ z. cmp name z name ≡ Less) (sym (same_here q x e)) (less_than xs at x (omega arith) (λ d. found d) sorted.0) in
+          sym (ap (λ o. cond (is_eq o) None (Some tt)) less)
+      go rest false e = rest
+
+  pub place_of_found : (names : List (List ℕ)) (at : ℕ) → at < length names → IsStrictlySortedBy (cmp name) names → IsBinarySearchResult (λ y. cmp name y name) names (Ok at) → IsPlaceOf name names at
+  place_of_found names at within sorted found = record {
+    within = within;
+    seen = map.same_map nat_list_cmp_total (slice_cmp-IsAntisymmetric nat_cmp-IsAntisymmetric) _ _ (λ q.
+        map.get-from_entries nat_list_cmp_total (pairs (remove names at)) q
+        ∙ find_without names at within sorted found q
+        ∙ ap (cond (is_eq (cmp name q name)) None) (sym (map.get-from_entries nat_list_cmp_total (pairs names) q))
+        ∙ sym (map.get-remove nat_list_cmp_total (names_from names) name q));
+    sorted = sorted_without names at sorted;
+  }
+
+  -- a binary search that ends at a place for the name hasn't found it
+  pub name_not_found : (names : List (List ℕ)) (at : ℕ) → IsStrictlySortedBy (cmp name) names → IsBinarySearchResult (λ y. cmp name y name) names (Err at) → map.contains_key (names_from names) name ≡ false
+  name_not_found names at sorted found = ap is_some (map.get-from_entries nat_list_cmp_total (pairs names) name ∙ go names at (found (comparisons_rise name names sorted)))
+    where
+      go : (names : List (List ℕ)) (at : ℕ) → IsPartitionPoint (λ y. cmp name y name ≡ Less) (λ y. cmp name y name ≡ Greater) names at → find (cmp name) name (pairs names) ≡ None
+      go [] at split = refl
+      go (x ∷ xs) zero split =
+          ap (λ o. cond (is_eq o) (Some tt) (find (cmp name) name (pairs xs))) (less_back name x (split.1 0 x (omega arith) (omega arith)))
+          ∙ go xs zero (λ k d a b. absurd (omega arith), λ k d a b. split.1 (suc k) d (omega arith) (omega arith))
+      go (x ∷ xs) (suc at) split =
+          ap (λ o. cond (is_eq o) (Some tt) (find (cmp name) name (pairs xs))) (greater_back name x (split.0 0 x (omega arith) (omega arith)))
+          ∙ go xs at (λ k d a b. split.0 (suc k) d (omega arith) (omega arith), λ k d a b. split.1 (suc k) d (omega arith) (omega arith))
+
+  -- where it isn't there, nothing is taken out
+  pub absent_already : (names : Names) → map.contains_key names name ≡ false → without_name names name ≡ names
+  absent_already names absent = map.same_map nat_list_cmp_total (slice_cmp-IsAntisymmetric nat_cmp-IsAntisymmetric) _ _ (λ q. map.get-remove nat_list_cmp_total names name q ∙ go q (eq_by_cmp (cmp name) q name) refl)
+    where
+      it_is : (o : Option (Unit {0})) → is_some o ≡ false → o ≡ None
+      it_is None e = refl
+      it_is (Some tt) e = absurd (cc)
+
+      go : (q : List ℕ) (b : Bool) → eq_by_cmp (cmp name) q name ≡ b → cond b None (map.get names q) ≡ map.get names q
+      go q true e = sym (it_is (map.get names name) absent) ∙ map.get_tied nat_list_cmp_total names q name (equal_of name (cmp name q name) e)
+      go q false e = refl
+
+  -- names in order without one of them
+  pub IsNameSet-without : (names : List (List ℕ)) (reach after : Reach) (at : ℕ) → IsNameSet names reach → IsPlaceOf name names at → after ≡ place_reached (remove names at) → after.1 ≤ 214 → IsNameSet (remove names at) after
+  IsNameSet-without names reach after at is place reached slots =
+      let nearer = (sublist_no_further nothing_packed nothing_packed (sublist_without names at) record { blocks = omega arith; slots = λ _. omega arith }).blocks in
+      record {
+        sorted = place.sorted;
+        short = All-from_recursion (λ name. length name ≤ 255) (remove names at) (all_removed (λ name. length name ≤ 255) names at (recursion_from_All (λ name. length name ≤ 255) names is.short));
+        reached = reached;
+        few = omega (arith, nearer, is.few, ap (λ r. r.0) is.reached, ap (λ r. r.0) reached);
+        slots = slots;
+      }

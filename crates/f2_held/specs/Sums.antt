@@ -6,11 +6,11 @@ use Rattle.std.specs.Cmp.Lexicographic.{slice_cmp}
 use Rattle.std.specs.Coded.{Coded, code_by, coded×, coded_ℕ, coded_list}
 use Rattle.std.specs.FinSet as set
 use Rattle.std.specs.FinMap as map
-use Rattle.std.specs.List.{range_with_len}
+use Rattle.std.specs.List.{range_with_len, remove}
 use Rattle.f2_format.specs.Offsets.{node_count}
 use Rattle.f2_format.specs.Packing.{Reach, place_reached}
 use Rattle.f2_model.specs.Fallback.{Both}
-use Rattle.f2_held.specs.Taken.{Names, Taken, names_from, and_name, of_names, of_files, of_directories}
+use Rattle.f2_held.specs.Taken.{Names, Taken, names_from, and_name, without_name, of_names, of_files, of_directories}
 
 -- how the values are stored
 abbrev pub both_code : Coded Both
@@ -69,3 +69,9 @@ pub record IsPlaceFor (name : List ℕ) (names : List (List ℕ)) (at : ℕ) : T
   pub within : at ≤ length names
   pub seen : names_from (with_at names at name) ≡ and_name (names_from names) name
   pub sorted : IsStrictlySortedBy (slice_cmp nat_cmp) (with_at names at name)
+
+-- the place of a name among names in order
+pub record IsPlaceOf (name : List ℕ) (names : List (List ℕ)) (at : ℕ) : Type 0 where
+  pub within : at < length names
+  pub seen : names_from (remove names at) ≡ without_name (names_from names) name
+  pub sorted : IsStrictlySortedBy (slice_cmp nat_cmp) (remove names at)

@@ -58,6 +58,23 @@ abbrev pub with_name : map.FinMap nat_cmp Names → Option (ℕ × List ℕ) →
 with_name directories None = directories
 with_name directories (Some at) = bound directories at.0 at.1
 
+-- a file's numbers become exactly these, and a file isn't in any more
+abbrev pub with_size : map.FinMap nat_cmp Both → ℕ → Both → map.FinMap nat_cmp Both
+with_size files ino size = map.insert files ino size
+
+abbrev pub forgotten : map.FinMap nat_cmp Both → ℕ → map.FinMap nat_cmp Both
+forgotten files ino = map.remove files ino
+
+-- a name is taken out of a directory, and a directory isn't in any more
+abbrev pub without_name : Names → List ℕ → Names
+without_name names name = map.remove names name
+
+abbrev pub left : map.FinMap nat_cmp Names → ℕ → List ℕ → map.FinMap nat_cmp Names
+left directories parent name = map.insert directories parent (without_name (names_of directories parent) name)
+
+abbrev pub closed : map.FinMap nat_cmp Names → ℕ → map.FinMap nat_cmp Names
+closed directories ino = map.remove directories ino
+
 -- the sum of numbers
 abbrev pub sum_of_all : List Both → Both
 sum_of_all sizes = fold sum_of nothing sizes

@@ -2,7 +2,7 @@
 ghost use Rattle.std.specs.Prelude.{◌≡◌, OnOk, OnErr, IfOk, true};
 ghost use Rattle.std.specs.FinMap as map;
 ghost use Rattle.std.specs.Prelude.{◌≤◌, length};
-ghost use Rattle.f2_held.specs.Taken.{opened, bound, of_directories};
+ghost use Rattle.f2_held.specs.Taken.{opened, bound, left, closed, of_directories};
 ghost use Rattle.f2_held.specs.Sums.{IsSmallSum};
 
 use crate::both::{Both, NOTHING};
@@ -79,6 +79,38 @@ impl Directories {
         let after = names.size();
         self.sum = exchanged(self.sum, before, after);
         Ok(())
+    }
+
+    /// Takes a name out of a directory, where it has it.
+    pub fn leave(&mut self, parent: u32, name: &Name)
+        requires parent { map.contains_key self.old parent ≡ true }
+        ensures { self.new ≡ left self.old parent name.now }
+    {
+        let Some(names) = self.names.get_mut(&parent) else {
+            unreachable!()
+        };
+        let before = names.size();
+        names.leave(name);
+        let after = names.size();
+        self.sum = exchanged(self.sum, before, after);
+    }
+
+    /// Takes a directory out with its names, where it is in.
+    pub fn close(&mut self, ino: u32)
+        ensures { self.new ≡ closed self.old ino }
+    {
+        let Some(names) = self.names.remove(&ino) else {
+            return;
+        };
+        let size = names.size();
+        self.sum = exchanged(self.sum, size, NOTHING);
+    }
+
+    /// Whether a directory is in.
+    pub fn has(&self, ino: u32) -> bool
+        ensures { result ≡ map.contains_key self.now ino }
+    {
+        self.names.contains_key(&ino)
     }
 
     /// The sum of what the directories take.

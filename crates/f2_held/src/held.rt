@@ -1,8 +1,8 @@
 //! The count of what a recovery may put together.
-ghost use Rattle.std.specs.Prelude.{◌≡◌, ◌<◌, ◌≤◌, ◌^◌, OnOk, OnErr, IfOk, IfSome, true, length};
+ghost use Rattle.std.specs.Prelude.{◌≡◌, ◌<◌, ◌≤◌, ◌^◌, OnOk, OnErr, IfOk, IfSome, true, length, None};
 ghost use Rattle.std.specs.FinMap as map;
 ghost use Rattle.std.specs.Option.{option_map};
-ghost use Rattle.f2_held.specs.Taken.{none_taken, raised, opened, bound, with_name, of_directories, total_of};
+ghost use Rattle.f2_held.specs.Taken.{none_taken, raised, with_size, forgotten, opened, bound, left, closed, with_name, of_directories, total_of};
 ghost use Rattle.f2_held.specs.Sums.{IsSmallSum};
 
 use crate::both::Both;
@@ -74,6 +74,48 @@ impl Held {
         ensures err { OnErr result (self.new ≡ self.old) }
     {
         self.directories.bind(parent, name)
+    }
+
+    /// Makes the numbers of a file exactly these, also where they were greater. Where memory is refused, which
+    /// is only where the file isn't in, nothing changes.
+    pub fn set(&mut self, ino: u32, size: Both) -> Result<(), AllocError>
+        requires nodes { size.nodes < 2 ^ 31 }
+        requires pages { size.pages < 2 ^ 31 }
+        ensures ok { OnOk result (self.new ≡ record self.old { files = with_size self.old.files ino size }) }
+        ensures err { OnErr result (self.new ≡ self.old) }
+        ensures absent { OnErr result (map.get self.old.files ino ≡ None) }
+    {
+        self.files.set(ino, size)
+    }
+
+    /// Takes a file out; where it isn't in nothing changes. Asks for no memory.
+    pub fn forget(&mut self, ino: u32)
+        ensures { self.new ≡ record self.old { files = forgotten self.old.files ino } }
+    {
+        self.files.forget(ino);
+    }
+
+    /// Takes a name out of a directory that is in; where it hasn't the name nothing changes. It walks over
+    /// the names of that one directory, and asks for no memory.
+    pub fn leave(&mut self, parent: u32, name: &Name)
+        requires { map.contains_key self.old.directories parent ≡ true }
+        ensures { self.new ≡ record self.old { directories = left self.old.directories parent name.now } }
+    {
+        self.directories.leave(parent, name);
+    }
+
+    /// Takes a directory out with all its names; where it isn't in nothing changes. Asks for no memory.
+    pub fn drop_dir(&mut self, ino: u32)
+        ensures { self.new ≡ record self.old { directories = closed self.old.directories ino } }
+    {
+        self.directories.close(ino);
+    }
+
+    /// Whether a directory is in.
+    pub fn has_dir(&self, ino: u32) -> bool
+        ensures { result ≡ map.contains_key self.now.directories ino }
+    {
+        self.directories.has(ino)
     }
 
     /// The most nodes and the most data blocks of a tree of what was taken in, as if this file and this

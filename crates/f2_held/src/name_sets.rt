@@ -1,12 +1,13 @@
 //! The names in a directory.
-ghost use Rattle.std.specs.Prelude.{◌≡◌, ◌<◌, ◌≤◌, ◌^◌, OnOk, OnErr, IfOk, IfSome, IfNone, List, ℕ, ◌++◌, ◌∷◌, take, drop, All, length, true};
+ghost use Rattle.std.specs.Prelude.{◌≡◌, ◌<◌, ◌≤◌, ◌^◌, OnOk, OnErr, IfOk, IfSome, IfNone, List, ℕ, false, ◌++◌, ◌∷◌, take, drop, All, length, true};
 ghost use Rattle.std.specs.List.Sorted.{IsStrictlySortedBy};
 ghost use Rattle.std.specs.Ordering.{nat_cmp};
 ghost use Rattle.std.specs.Cmp.Lexicographic.{slice_cmp};
 ghost use Rattle.std.specs.FinMap as map;
 ghost use Rattle.f2_format.specs.Packing.{place_reached};
-ghost use Rattle.f2_held.specs.Taken.{names_from, and_name, of_names};
-ghost use Rattle.f2_held.specs.Sums.{IsNameSet, IsSmall, IsPlaceFor, of_blocks, with_at};
+ghost use Rattle.f2_held.specs.Taken.{names_from, and_name, without_name, of_names};
+ghost use Rattle.f2_held.specs.Sums.{IsNameSet, IsSmall, IsPlaceFor, IsPlaceOf, of_blocks, with_at};
+ghost use Rattle.std.specs.List.{remove};
 
 use crate::both::Both;
 use crate::first_pages::nodes_of_first;
@@ -98,6 +99,17 @@ impl NameSet {
         self.reach = reach;
         Ok(())
     }
+
+    /// Takes a name out, where it is there. It walks over the names, and asks for no memory.
+    pub fn leave(&mut self, name: &Name)
+        ensures { self.new ≡ without_name self.old name.now }
+    {
+        let Some(at) = place_of(&self.names, name) else {
+            return;
+        };
+        self.reach = reach_without(&self.names, self.reach, at);
+        self.names.remove(at);
+    }
 }
 
 /// What a directory of so many blocks takes.
@@ -129,6 +141,23 @@ fn place_for(names: &[Name], name: &Name) -> Option<usize>
     }
 }
 
+/// Where a name stands among names in order, or `None` where it isn't there.
+fn place_of(names: &[Name], name: &Name) -> Option<usize>
+    requires { IsStrictlySortedBy (slice_cmp nat_cmp) names.now }
+    ensures absent { IfNone result (map.contains_key (names_from names.now) name.now ≡ false) }
+    ensures place { IfSome result (IsPlaceOf name.now names.now) }
+{
+    let found = names.binary_search_by(
+        |other: &Name| -> Ordering
+            ensures { result ≡ slice_cmp nat_cmp other.now name.entry.now }
+        { other.compare(name) },
+    );
+    match found {
+        Ok(at) => Some(at),
+        Err(_) => None,
+    }
+}
+
 /// How far names fill a directory with one more at a place. Behind all others it goes on from where
 /// they reach.
 fn reach_with(names: &[Name], reach: Reach, at: usize, name: &Name) -> Reach
@@ -146,4 +175,17 @@ fn reach_with(names: &[Name], reach: Reach, at: usize, name: &Name) -> Reach
         .after_all(&names[..at])
         .after(name)
         .after_all(&names[at..])
+}
+
+/// How far names fill a directory without the one at a place.
+fn reach_without(names: &[Name], reach: Reach, at: usize) -> Reach
+    requires names { IsNameSet names.now reach }
+    requires at { at < length names.now }
+    requires fits { length names.now < 2 ^ 62 }
+    ensures place { result ≡ place_reached (remove names.now at) }
+    ensures slots { result.1 ≤ 214 }
+{
+    NOTHING_PACKED
+        .after_all(&names[..at])
+        .after_all(&names[at + 1..])
 }

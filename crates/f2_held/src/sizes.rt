@@ -1,7 +1,7 @@
 //! The numbers of files, with their sum.
-ghost use Rattle.std.specs.Prelude.{◌≡◌, ◌≤◌, ◌+◌, ◌-◌, OnOk, OnErr};
+ghost use Rattle.std.specs.Prelude.{◌≡◌, ◌≤◌, ◌+◌, ◌-◌, OnOk, OnErr, None};
 ghost use Rattle.std.specs.FinMap as map;
-ghost use Rattle.f2_held.specs.Taken.{size_of, raised, of_files};
+ghost use Rattle.f2_held.specs.Taken.{size_of, raised, with_size, forgotten, of_files};
 ghost use Rattle.f2_held.specs.Sums.{IsSmall, IsSmallSum, in_place};
 
 use crate::both::{Both, NOTHING};
@@ -54,6 +54,28 @@ impl Sizes {
         self.sizes.insert(ino, raised)?;
         self.sum = exchanged(self.sum, stood, raised);
         Ok(())
+    }
+
+    /// Makes a file's numbers exactly these. Where memory is refused, which is only where the file isn't in,
+    /// nothing changes.
+    pub fn set(&mut self, ino: u32, size: Both) -> Result<(), AllocError>
+        requires { IsSmall size }
+        ensures ok { OnOk result (self.new ≡ with_size self.old ino size) }
+        ensures err { OnErr result (self.new ≡ self.old) }
+        ensures absent { OnErr result (map.get self.old ino ≡ None) }
+    {
+        let stood = self.stood(ino);
+        self.sizes.insert(ino, size)?;
+        self.sum = exchanged(self.sum, stood, size);
+        Ok(())
+    }
+
+    /// Takes a file out, where it is in.
+    pub fn forget(&mut self, ino: u32)
+        ensures { self.new ≡ forgotten self.old ino }
+    {
+        let stood = self.sizes.remove(&ino).unwrap_or(NOTHING);
+        self.sum = exchanged(self.sum, stood, NOTHING);
     }
 
     /// The sum, were a file's numbers raised so.
