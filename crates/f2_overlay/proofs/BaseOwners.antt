@@ -1,5 +1,5 @@
 -- The pages of the base with their addresses, file by file.
-use Rattle.std.proofs.Common.{◌≡◌, ◌≢◌, ◌⊎◌, inl, inr, ℕ, ◌+◌, ◌<◌, ◌≤◌, List, length, refl, sym, ap, subst, ◌∙◌, arith}
+use Rattle.std.proofs.Common.{◌≡◌, ◌⊎◌, inl, inr, ℕ, ◌+◌, ◌<◌, ◌≤◌, List, length, sym, subst, ◌∙◌, arith}
 use Rattle.std.specs.Prelude.{Some, None, slice_index_or}
 use Rattle.std.specs.FinMap as map
 use Rattle.std.proofs.lemmas.Bool.{cases_lt}
@@ -14,7 +14,6 @@ use Rattle.f2_recover.specs.declared.nodes.PageAt.{PageAt}
 use Rattle.f2_recover.specs.declared.rows.BaseRow.{BaseRow}
 use Rattle.f2_recover.specs.declared.walk.Walk.{Walk}
 use Rattle.f2_overlay.specs.Owning.{Owned, IsMore, AreRight, HasListed, AreListed, AreBaseTo}
-use Rattle.f2_overlay.specs.declared.owners.Owner.{Owner}
 use Rattle.f2_overlay.proofs.Maps.{not_none}
 use Rattle.f2_overlay.proofs.Based.{nid_within, reached_row, page_of_row, list_of_row, listed_of_base}
 

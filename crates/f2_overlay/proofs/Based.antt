@@ -1,24 +1,21 @@
 -- What follows of a base that was read: each ino that is reached has a row, with the pages of its file.
-use Rattle.std.proofs.Common.{◌≡◌, ◌≢◌, ◌⊎◌, inl, inr, ℕ, ◌<◌, ◌≤◌, ◌==◌, nat_le, Bool, true, false, cond, ◌||◌, List, length, refl, sym, ap, subst, ◌∙◌, arith}
-use Rattle.std.specs.Prelude.{Some, None, Contains, slice_index_or}
+use Rattle.std.proofs.Common.{◌≡◌, ◌⊎◌, inl, inr, ℕ, ◌<◌, ◌≤◌, ◌==◌, nat_le, cond, ◌||◌, List, sym, ap, ◌∙◌, arith}
+use Rattle.std.specs.Prelude.{Some, slice_index_or}
 use Rattle.std.specs.FinMap as map
 use Rattle.std.proofs.lemmas.Bool.{cases_lt}
 use Rattle.std.proofs.lemmas.Bool.Decides.{nat_tests}
 use Rattle.std.proofs.lemmas.List.{get_or_default}
-use Rattle.f2_format.specs.Dentry.{Dentry}
 use Rattle.f2_format.specs.Geometry.{nid_limit}
 use Rattle.f2_format.specs.Offsets.{page_limit}
-use Rattle.f2_model.specs.Tree.{ROOT}
 use Rattle.f2_model.specs.declared.rows.Kind.{Kind}
 use Rattle.f2_model.specs.declared.rows.Kind.TheVariants.{Directory}
 use Rattle.f2_image.specs.Images.{Image}
 use Rattle.f2_image.specs.Packs.{Checkpoint}
-use Rattle.f2_image.specs.Nodes.{place_of_nid, node_address, node, block_there}
-use Rattle.f2_image.specs.Bases.{IsInode, IsReached, HasDentry, root, below, inode_kind}
-use Rattle.f2_image.specs.Reached.{IsBasePage, IsPage}
+use Rattle.f2_image.specs.Nodes.{place_of_nid, node, block_there}
+use Rattle.f2_image.specs.Bases.{IsInode, IsReached, root, below, inode_kind}
+use Rattle.f2_image.specs.Reached.{IsBasePage}
 use Rattle.f2_recover.specs.Seeing.{IsPart, IsList, no_page, node_limit}
 use Rattle.f2_recover.specs.Walking.{HasRow, IsRowOf, IsBaseRead}
-use Rattle.f2_recover.specs.declared.nodes.PageAt.{PageAt}
 use Rattle.f2_recover.specs.declared.rows.BaseRow.{BaseRow}
 use Rattle.f2_recover.specs.declared.walk.Walk.{Walk}
 use Rattle.f2_overlay.specs.Owning.{AreListed}

@@ -1,6 +1,6 @@
 -- The addresses of a list of pages, page by page.
 use Rattle.std.proofs.Common.{◌≡◌, ◌≢◌, ◌⊎◌, inl, inr, ℕ, ◌+◌, ◌<◌, ◌≤◌, List, length, refl, sym, ap, subst, ◌∙◌, arith}
-use Rattle.std.specs.Prelude.{Option, Some, None, Contains, slice_index_or}
+use Rattle.std.specs.Prelude.{Option, Some, None, slice_index_or}
 use Rattle.std.specs.Ordering.{nat_cmp}
 use Rattle.std.specs.FinMap as map
 use Rattle.std.specs.FinMap.{get-empty}
@@ -9,7 +9,7 @@ use Rattle.std.proofs.lemmas.List.{get_or_default}
 use Rattle.f2_recover.specs.Seeing.{IsList, no_page}
 use Rattle.f2_recover.specs.declared.nodes.PageAt.{PageAt}
 use Rattle.f2_overlay.specs.Owning.{Pages}
-use Rattle.f2_overlay.proofs.Maps.{not_none, one_some, get_put, get_put-other, put_cases}
+use Rattle.f2_overlay.proofs.Maps.{not_none, get_put, get_put-other, put_cases}
 
 -- so many first pages of a list have their addresses, and no others have any
 pub record AreCopiedTo (pages : Pages) (list : List PageAt) (count : ℕ) (copied : Pages) : Type 0 where

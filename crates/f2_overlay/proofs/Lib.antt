@@ -19,6 +19,7 @@ pub mod Copies
 pub mod Starts
 pub mod Newer
 pub mod MarkPages
+pub mod TakenNodes
 pub mod Unreached
 pub mod StartPages
 pub mod MarkedFile

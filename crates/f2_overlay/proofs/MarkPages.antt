@@ -1,11 +1,11 @@
 -- The addresses of the pages of a mark: those that its inode tells, those of direct nodes that were logged since the mark before, and else those of
 -- the mark before or of the base.
-use Rattle.std.proofs.Common.{◌≡◌, ◌≢◌, ◌⊎◌, inl, inr, ℕ, suc, ◌+◌, ◌<◌, ◌≤◌, nat_lt, Bool, true, false, cond, List, IsTrue, length, refl, sym, ap, subst, ◌∙◌, add-one, arith}
+use Rattle.std.proofs.Common.{◌≡◌, ◌≢◌, ℕ, ◌+◌, ◌<◌, ◌≤◌, nat_lt, Bool, true, false, cond, List, refl, sym, ap, ◌∙◌, add-one, arith}
 use Rattle.std.specs.Prelude.{Option, Some, None, slice_index_or}
 use Rattle.std.proofs.lemmas.Bool.Decides.{nat_tests}
 use Rattle.f2_format.specs.Footer.{footer_ino}
-use Rattle.f2_format.specs.Inode.{inode_of, node_word}
-use Rattle.f2_format.specs.Offsets.{inode_pages, page_limit, direct_of, direct_number, direct_slot, nth_direct}
+use Rattle.f2_format.specs.Inode.{inode_of}
+use Rattle.f2_format.specs.Offsets.{inode_pages, direct_of, direct_number, direct_slot, nth_direct}
 use Rattle.f2_image.specs.Images.{Image}
 use Rattle.f2_image.specs.Packs.{Checkpoint}
 use Rattle.f2_image.specs.Nodes.{node, direct_node, address_in, word_of, page_address}

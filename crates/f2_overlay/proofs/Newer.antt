@@ -1,6 +1,7 @@
 -- The newest blocks of the nodes of files since their marks, place by place of a log.
-use Rattle.std.proofs.Common.{◌≡◌, ◌≢◌, ◌⊎◌, inl, inr, ℕ, zero, suc, ◌+◌, ◌<◌, ◌≤◌, ◌==◌, ◌&&◌, Bool, true, false, cond, List, length, refl, sym, ap, subst, ◌∙◌, add-one, eq-eqb, arith}
+use Rattle.std.proofs.Common.{◌≡◌, ◌≢◌, ◌⊎◌, inl, inr, ℕ, zero, suc, ◌+◌, ◌<◌, ◌==◌, ◌&&◌, Bool, true, false, cond, List, refl, sym, ap, ◌∙◌, add-one, eq-eqb, arith}
 use Rattle.std.specs.Prelude.{Option, Some, None, option_and_then}
+use Rattle.std.specs.Option.{option_map}
 use Rattle.std.specs.Ordering.{nat_cmp}
 use Rattle.std.specs.FinMap as map
 use Rattle.std.specs.FinMap.{get-empty}
@@ -8,6 +9,7 @@ use Rattle.std.proofs.lemmas.Bool.{cases_eq, ne_eqb, eqb-true, and_parts}
 use Rattle.f2_format.specs.Footer.{footer_ino, footer_offset, has_fsync_mark}
 use Rattle.f2_image.specs.Chains.{Logged, block_in, is_marked, is_node_of, last_before}
 use Rattle.f2_overlay.specs.Lasts.{last_mark_before}
+use Rattle.f2_overlay.specs.Taking.{last_node_before}
 use Rattle.f2_overlay.specs.Pending.{Places, AllPlaces, newest_before, place_of, IsNoted, IsLeft, ArePending}
 use Rattle.f2_overlay.proofs.Maps.{not_none, one_some}
 
@@ -35,44 +37,65 @@ module _ (log : List Logged) where
     newest_at : (a b : Bool) → marks place ino ≡ a → node_at place ino offset ≡ b → newest_before log (suc place) ino offset ≡ cond a None (cond b (Some place) (newest_before log place ino offset))
     newest_at a b e f = ap (λ x. cond x None (cond (node_at place ino offset) (Some place) (newest_before log place ino offset))) e ∙ ap (λ x. cond a None (cond x (Some place) (newest_before log place ino offset))) f
 
-    last_at : (b : Bool) → node_at place ino offset ≡ b → last_before log (suc place) ino offset ≡ cond b (Some (block_in log place)) (last_before log place ino offset)
-    last_at b f = ap (λ x. cond x (Some (block_in log place)) (last_before log place ino offset)) f
+    last_at : (b : Bool) → node_at place ino offset ≡ b → last_node_before log (suc place) ino offset ≡ cond b (Some place) (last_node_before log place ino offset)
+    last_at b f = ap (λ x. cond x (Some place) (last_node_before log place ino offset)) f
+
+  -- the last block is the one at the last place
+  pub last_block : (place ino offset : ℕ) → last_before log place ino offset ≡ option_map (block_in log) (last_node_before log place ino offset)
+  last_block zero ino offset = refl
+  last_block (suc place) ino offset =
+      ap (λ o. cond (node_at place ino offset) (Some (block_in log place)) o) (last_block place ino offset) ∙ chosen (node_at place ino offset) (last_node_before log place ino offset)
+    where
+      chosen : (b : Bool) (o : Option ℕ) → cond b (Some (block_in log place)) (option_map (block_in log) o) ≡ option_map (block_in log) (cond b (Some place) o)
+      chosen true o = refl
+      chosen false o = refl
 
   mark_at : (place ino : ℕ) (a : Bool) → marks place ino ≡ a → last_mark_before log (suc place) ino ≡ cond a (Some place) (last_mark_before log place ino)
   mark_at place ino a e = ap (λ x. cond x (Some place) (last_mark_before log place ino)) e
 
   -- where there is a newest block, it is the last one
-  pub newest_some : (place ino offset q : ℕ) → newest_before log place ino offset ≡ Some q → (q < place) × (last_before log place ino offset ≡ Some (block_in log q))
-  newest_some zero ino offset q is = absurd (not_none q is)
-  newest_some (suc place) ino offset q is = by (newest_some place ino offset q) (bool_cases (marks place ino)) (bool_cases (node_at place ino offset))
+  pub newest_node_some : (place ino offset q : ℕ) → newest_before log place ino offset ≡ Some q → (q < place) × (last_node_before log place ino offset ≡ Some q)
+  newest_node_some zero ino offset q is = absurd (not_none q is)
+  newest_node_some (suc place) ino offset q is = by (newest_node_some place ino offset q) (bool_cases (marks place ino)) (bool_cases (node_at place ino offset))
     where
-      by : (newest_before log place ino offset ≡ Some q → (q < place) × (last_before log place ino offset ≡ Some (block_in log q))) → (marks place ino ≡ true) ⊎ (marks place ino ≡ false) → (node_at place ino offset ≡ true) ⊎ (node_at place ino offset ≡ false) → (q < suc place) × (last_before log (suc place) ino offset ≡ Some (block_in log q))
+      by : (newest_before log place ino offset ≡ Some q → (q < place) × (last_node_before log place ino offset ≡ Some q)) → (marks place ino ≡ true) ⊎ (marks place ino ≡ false) → (node_at place ino offset ≡ true) ⊎ (node_at place ino offset ≡ false) → (q < suc place) × (last_node_before log (suc place) ino offset ≡ Some q)
       by earlier (inl e) f = absurd (not_none q (sym (ap (λ x. cond x None (cond (node_at place ino offset) (Some place) (newest_before log place ino offset))) e) ∙ is))
       by earlier (inr e) (inl f) =
           let same : place ≡ q = one_some place q (sym (newest_at place ino offset false true e f) ∙ is) in
-          (omega (arith, same), last_at place ino offset true f ∙ ap (λ n. Some (block_in log n)) same)
+          (omega (arith, same), last_at place ino offset true f ∙ ap Some same)
       by earlier (inr e) (inr f) =
           let before = earlier (sym (newest_at place ino offset false false e f) ∙ is) in
           (omega (arith, before.0), last_at place ino offset false f ∙ before.1)
 
+  pub newest_some : (place ino offset q : ℕ) → newest_before log place ino offset ≡ Some q → (q < place) × (last_before log place ino offset ≡ Some (block_in log q))
+  newest_some place ino offset q is =
+      let found = newest_node_some place ino offset q is in (found.0, last_block place ino offset ∙ ap (λ o. option_map (block_in log) o) found.1)
+
   -- where there is none, the last one stands before the last mark
-  pub newest_none : (place ino offset : ℕ) → newest_before log place ino offset ≡ None → last_mark_before log place ino ≡ None → last_before log place ino offset ≡ None
-  newest_none zero ino offset none unmarked = refl
-  newest_none (suc place) ino offset none unmarked = by (newest_none place ino offset) (bool_cases (marks place ino)) (bool_cases (node_at place ino offset))
+  pub newest_node_none : (place ino offset : ℕ) → newest_before log place ino offset ≡ None → last_mark_before log place ino ≡ None → last_node_before log place ino offset ≡ None
+  newest_node_none zero ino offset none unmarked = refl
+  newest_node_none (suc place) ino offset none unmarked = by (newest_node_none place ino offset) (bool_cases (marks place ino)) (bool_cases (node_at place ino offset))
     where
-      by : (newest_before log place ino offset ≡ None → last_mark_before log place ino ≡ None → last_before log place ino offset ≡ None) → (marks place ino ≡ true) ⊎ (marks place ino ≡ false) → (node_at place ino offset ≡ true) ⊎ (node_at place ino offset ≡ false) → last_before log (suc place) ino offset ≡ None
+      by : (newest_before log place ino offset ≡ None → last_mark_before log place ino ≡ None → last_node_before log place ino offset ≡ None) → (marks place ino ≡ true) ⊎ (marks place ino ≡ false) → (node_at place ino offset ≡ true) ⊎ (node_at place ino offset ≡ false) → last_node_before log (suc place) ino offset ≡ None
       by earlier (inl e) f = absurd (not_none place (sym unmarked ∙ mark_at place ino true e))
       by earlier (inr e) (inl f) = absurd (not_none place (sym none ∙ newest_at place ino offset false true e f))
       by earlier (inr e) (inr f) = last_at place ino offset false f ∙ earlier (sym (newest_at place ino offset false false e f) ∙ none) (sym (mark_at place ino false e) ∙ unmarked)
 
-  pub newest_marked : (place ino offset mark : ℕ) → newest_before log place ino offset ≡ None → last_mark_before log place ino ≡ Some mark → last_before log place ino offset ≡ last_before log (suc mark) ino offset
-  newest_marked zero ino offset mark none marked = absurd (not_none mark marked)
-  newest_marked (suc place) ino offset mark none marked = by (newest_marked place ino offset mark) (bool_cases (marks place ino)) (bool_cases (node_at place ino offset))
+  pub newest_none : (place ino offset : ℕ) → newest_before log place ino offset ≡ None → last_mark_before log place ino ≡ None → last_before log place ino offset ≡ None
+  newest_none place ino offset none unmarked = last_block place ino offset ∙ ap (λ o. option_map (block_in log) o) (newest_node_none place ino offset none unmarked)
+
+  pub newest_node_marked : (place ino offset mark : ℕ) → newest_before log place ino offset ≡ None → last_mark_before log place ino ≡ Some mark → last_node_before log place ino offset ≡ last_node_before log (suc mark) ino offset
+  newest_node_marked zero ino offset mark none marked = absurd (not_none mark marked)
+  newest_node_marked (suc place) ino offset mark none marked = by (newest_node_marked place ino offset mark) (bool_cases (marks place ino)) (bool_cases (node_at place ino offset))
     where
-      by : (newest_before log place ino offset ≡ None → last_mark_before log place ino ≡ Some mark → last_before log place ino offset ≡ last_before log (suc mark) ino offset) → (marks place ino ≡ true) ⊎ (marks place ino ≡ false) → (node_at place ino offset ≡ true) ⊎ (node_at place ino offset ≡ false) → last_before log (suc place) ino offset ≡ last_before log (suc mark) ino offset
-      by earlier (inl e) f = ap (λ n. last_before log (suc n) ino offset) (one_some place mark (sym (mark_at place ino true e) ∙ marked))
+      by : (newest_before log place ino offset ≡ None → last_mark_before log place ino ≡ Some mark → last_node_before log place ino offset ≡ last_node_before log (suc mark) ino offset) → (marks place ino ≡ true) ⊎ (marks place ino ≡ false) → (node_at place ino offset ≡ true) ⊎ (node_at place ino offset ≡ false) → last_node_before log (suc place) ino offset ≡ last_node_before log (suc mark) ino offset
+      by earlier (inl e) f = ap (λ n. last_node_before log (suc n) ino offset) (one_some place mark (sym (mark_at place ino true e) ∙ marked))
       by earlier (inr e) (inl f) = absurd (not_none place (sym none ∙ newest_at place ino offset false true e f))
       by earlier (inr e) (inr f) = last_at place ino offset false f ∙ earlier (sym (newest_at place ino offset false false e f) ∙ none) (sym (mark_at place ino false e) ∙ marked)
+
+  pub newest_marked : (place ino offset mark : ℕ) → newest_before log place ino offset ≡ None → last_mark_before log place ino ≡ Some mark → last_before log place ino offset ≡ last_before log (suc mark) ino offset
+  newest_marked place ino offset mark none marked =
+      last_block place ino offset ∙ ap (λ o. option_map (block_in log) o) (newest_node_marked place ino offset mark none marked) ∙ sym (last_block (suc mark) ino offset)
 
   -- a mark stands before the place, and is one
   pub last_mark_is : (place ino mark : ℕ) → last_mark_before log place ino ≡ Some mark → (mark < place) × (is_marked (block_in log mark) ≡ true) × (footer_ino (block_in log mark) ≡ ino)
@@ -110,8 +133,12 @@ module _ (log : List Logged) where
       pub mark_elsewhere : (other : ℕ) → other ≢ ino → last_mark_before log (place + 1) other ≡ last_mark_before log place other
       mark_elsewhere other different = ap (λ n. last_mark_before log n other) (add-one place) ∙ mark_at place other false (elsewhere other different)
 
+      pub last_node_stays : (other offset : ℕ) → offset ≢ 0 → last_node_before log (place + 1) other offset ≡ last_node_before log place other offset
+      last_node_stays other offset some = ap (λ n. last_node_before log n other offset) (add-one place) ∙ last_at place other offset false (no_node other offset some)
+
       pub last_stays : (other offset : ℕ) → offset ≢ 0 → last_before log (place + 1) other offset ≡ last_before log place other offset
-      last_stays other offset some = ap (λ n. last_before log n other offset) (add-one place) ∙ last_at place other offset false (no_node other offset some)
+      last_stays other offset some =
+          last_block (place + 1) other offset ∙ ap (λ o. option_map (block_in log) o) (last_node_stays other offset some) ∙ sym (last_block place other offset)
 
       pub pending_marked : (old new : AllPlaces) → IsLeft old new ino → ArePending log place old → ArePending log (place + 1) new
       pending_marked old new left are = record { nodes = λ other offset some. by other offset some (cases_eq other ino); inodes = λ other. top other (cases_eq other ino) }

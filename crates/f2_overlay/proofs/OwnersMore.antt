@@ -1,5 +1,5 @@
 -- Addresses that pages have, and one more.
-use Rattle.std.proofs.Common.{◌≡◌, ◌≢◌, ◌⊎◌, inl, inr, ℕ, zero, suc, ◌+◌, ◌<◌, ◌≤◌, true, IsTrue, List, length, refl, sym, ap, subst, ◌∙◌, arith}
+use Rattle.std.proofs.Common.{◌≡◌, ◌≢◌, ◌⊎◌, inl, inr, ℕ, ◌+◌, ◌<◌, ◌≤◌, true, IsTrue, List, sym, ap, subst, ◌∙◌, arith}
 use Rattle.std.specs.Prelude.{Some, None, slice_index_or}
 use Rattle.std.specs.Ordering.{nat_cmp}
 use Rattle.std.specs.FinMap as map
@@ -11,7 +11,7 @@ use Rattle.f2_image.specs.Packs.{Checkpoint}
 use Rattle.f2_image.specs.Reached.{IsPage}
 use Rattle.f2_recover.specs.Seeing.{no_page}
 use Rattle.f2_recover.specs.declared.nodes.PageAt.{PageAt}
-use Rattle.f2_overlay.specs.Owning.{Owned, IsMore, AreRight, HasListed, AreListed}
+use Rattle.f2_overlay.specs.Owning.{Owned, IsMore, AreRight, HasListed}
 use Rattle.f2_overlay.specs.declared.owners.Owner.{Owner}
 use Rattle.f2_overlay.proofs.Maps.{not_none, get_put, get_put-other, put_cases}
 

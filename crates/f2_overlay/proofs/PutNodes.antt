@@ -109,6 +109,9 @@ nodes_all log places left old new none all = record {
   fewer = λ offset place there. absurd (not_none place (sym (get-empty nat_cmp offset) ∙ there));
 }
 
--- a block of a log by its place
+-- what a log has at a place, and its block there
+pub logged_at : (log : List Logged) (place : ℕ) (logged : Logged) → place < length log → logged ≡ slice_index_or log place logged → logged ≡ slice_index_or log place no_block
+logged_at log place logged small is = is ∙ get_or_default log place logged no_block small
+
 pub block_at_place : (log : List Logged) (place : ℕ) (logged : Logged) → place < length log → logged ≡ slice_index_or log place logged → logged.block ≡ block_in log place
-block_at_place log place logged small is = ap (λ (x : Logged). x.block) (is ∙ get_or_default log place logged no_block small)
+block_at_place log place logged small is = ap (λ (x : Logged). x.block) (logged_at log place logged small is)

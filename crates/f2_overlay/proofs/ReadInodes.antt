@@ -1,5 +1,5 @@
 -- The fields of an inode that was read of a marked block.
-use Rattle.std.proofs.Common.{◌≡◌, ℕ, nat_lt, Bool, true, false, cond, List, refl, sym, ap, ◌∙◌}
+use Rattle.std.proofs.Common.{◌≡◌, ℕ, nat_lt, Bool, true, false, cond, List, sym, ap, ◌∙◌}
 use Rattle.std.specs.Prelude.{Option, Some, None, Result, Ok, Err, take}
 use Rattle.f2_format.specs.Inode.{inode_of, NAME_BYTES, SIZE_LIMIT}
 use Rattle.f2_model.specs.declared.rows.Kind.{Kind}

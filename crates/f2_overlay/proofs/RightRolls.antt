@@ -1,18 +1,16 @@
 -- What is right of the pages of marks once the whole log was walked.
-use Rattle.std.proofs.Common.{◌≡◌, ◌≢◌, ◌⊎◌, inl, inr, ℕ, ◌*◌, ◌<◌, ◌≤◌, IsTrue, List, [], ◌∷◌, length, refl, sym, ap, ◌∙◌, subst, arith}
+use Rattle.std.proofs.Common.{◌≡◌, inl, inr, ℕ, ◌*◌, ◌<◌, ◌≤◌, List, [], ◌∷◌, length, sym, ap, ◌∙◌, arith}
 use Rattle.std.specs.Prelude.{Some}
 use Rattle.std.specs.List.{AllByRecursion}
 use Rattle.std.specs.FinMap as map
-use Rattle.f2_format.specs.Footer.{footer_ino}
-use Rattle.f2_format.specs.Geometry.{data_third, is_in_data}
+use Rattle.f2_format.specs.Geometry.{data_third}
 use Rattle.f2_image.specs.Images.{Image}
 use Rattle.f2_image.specs.Packs.{Checkpoint}
-use Rattle.f2_image.specs.Chains.{chain, marked_address}
-use Rattle.f2_image.specs.Reached.{IsBasePage, IsMarkedPage, IsPage, HasMore}
+use Rattle.f2_image.specs.Chains.{chain}
+use Rattle.f2_image.specs.Reached.{IsMarkedPage, IsPage}
 use Rattle.f2_image.specs.Faults.{IsSomeBlock, IsTooFull}
 use Rattle.f2_image.specs.Faults as faults
 use Rattle.f2_recover.specs.declared.walk.Walk.{Walk}
-use Rattle.f2_overlay.specs.Owning.{Owned}
 use Rattle.f2_overlay.specs.Rolling.{IsRolledTo}
 use Rattle.f2_overlay.specs.Rolls.{HasRightPages}
 use Rattle.f2_overlay.specs.declared.marks.Rolling.{Rolling}

@@ -10,7 +10,7 @@ use Rattle.f2_format.specs.Footer.{footer_ino, footer_offset, has_fsync_mark}
 use Rattle.f2_format.specs.Geometry.{Extent, nid_limit}
 use Rattle.f2_image.specs.Images.{Image}
 use Rattle.f2_image.specs.Packs.{Checkpoint}
-use Rattle.f2_image.specs.Chains.{Logged, chain, block_in, is_marked}
+use Rattle.f2_image.specs.Chains.{Logged, block_in, is_marked}
 use Rattle.f2_recover.specs.declared.walk.Walk.{Walk}
 use Rattle.f2_overlay.specs.Pending.{AllPlaces, IsNoted, ArePending}
 use Rattle.f2_overlay.specs.Rolling.{IsGround, IsRolledTo}

@@ -1,5 +1,5 @@
 -- A mark of a log over the base of its image.
-use Rattle.std.proofs.Common.{◌≡◌, ◌≢◌, ◌⊎◌, inl, inr, ℕ, ◌+◌, ◌<◌, ◌≤◌, true, List, length, refl, sym, ap, subst, ◌∙◌, arith}
+use Rattle.std.proofs.Common.{◌≡◌, ◌≢◌, ◌⊎◌, inl, inr, ℕ, ◌+◌, ◌<◌, true, List, length, refl, sym, ap, subst, ◌∙◌, arith}
 use Rattle.std.specs.Prelude.{Option, Some, None, Ok, slice_index_or}
 use Rattle.std.specs.FinMap as map
 use Rattle.std.proofs.lemmas.Bool.{cases_eq}
@@ -16,12 +16,12 @@ use Rattle.f2_image.specs.Chains.{Logged, chain, no_block, block_in, is_marked}
 use Rattle.f2_image.specs.Reached.{IsMarkedAt}
 use Rattle.f2_image.specs.Faults.{IsPastSize, IsForeign, IsBadInode}
 use Rattle.f2_image.specs.Faults as faults
-use Rattle.f2_recover.specs.Walking.{BaseRows}
 use Rattle.f2_recover.specs.declared.walk.Walk.{Walk}
 use Rattle.f2_overlay.specs.Pending.{Places, place_of, newest_before, AreWithin, IsLeft, ArePending}
 use Rattle.f2_overlay.specs.Owning.{Owned, Pages, IsMore, AreRight, AreOwn, ArePagesFrom}
+use Rattle.f2_overlay.specs.Taking.{Nodes, node_in, AreNodesAt, AreNodesTaken}
 use Rattle.f2_overlay.specs.Putting.{ArePut, AreNodesPut, AreNodePages}
-use Rattle.f2_overlay.specs.Rolling.{IsGround, StartAs, AreMarked, IsNamedAs, IsRolledTo}
+use Rattle.f2_overlay.specs.Rolling.{IsGround, StartAs, StartNodesAs, AreMarked, IsNamedAs, IsRolledTo}
 use Rattle.f2_overlay.specs.declared.rolls.Roll.{Roll}
 use Rattle.f2_overlay.specs.declared.marks.Rolling.{Rolling}
 use Rattle.f2_overlay.proofs.Maps.{not_none}
@@ -29,6 +29,7 @@ use Rattle.f2_overlay.proofs.Newer.{newest_some}
 use Rattle.f2_overlay.proofs.StartPages.{IsStart, start_is}
 use Rattle.f2_overlay.proofs.MarkedFile.{inode_pages_are, node_pages_are, marked_pages}
 use Rattle.f2_overlay.proofs.ReadInodes.{IsInodeOf, inode_read, named_of}
+use Rattle.f2_overlay.proofs.TakenNodes.{nodes_at}
 use Rattle.f2_overlay.proofs.Rolled.{rolled_marked}
 
 -- the newest blocks of a file stand in the log
@@ -90,10 +91,16 @@ module _ (held : Option Contents) (extent : Extent) (image : Image) (point : Che
         -- the mark was put
         module _ (roll : Roll) (new : Rolling) (size : roll.size ≡ inode.size) (pages : roll.pages ≡ all) (named : IsNamedAs inode (map.get walk.rows ino) roll.parent roll.name) (owned_is : new.owners ≡ owned) (left : IsLeft rolling.pending new.pending ino)
             (others : (other : ℕ) → other ≢ ino → map.get new.rolls other ≡ map.get rolling.rolls other) (here : map.get new.rolls ino ≡ Some roll) (more : IsMore rolling.owners owned) (right : AreRight image point owned)
-            (ends : (page q : ℕ) → map.get all page ≡ Some q → ¬ (IsPastSize image inode.size page q)) where
+            (ends : (page q : ℕ) → map.get all page ≡ Some q → ¬ (IsPastSize image inode.size page q)) (first taken_nodes : Nodes) (begins : StartNodesAs (map.get rolling.rolls ino) first) (direct : AreNodesTaken log newest map.empty first taken_nodes)
+            (put_nodes : roll.nodes ≡ map.insert taken_nodes 0 (node_in log place)) where
+          nodes_are : AreNodesAt image point place ino roll.nodes
+          nodes_are =
+              nodes_at image point walk place ino at own_at rolling.rolls before.rolls newest newest_is first taken_nodes begins (subst (λ (l : List Logged). AreNodesTaken l newest map.empty first taken_nodes) ground.chain_is direct) roll.nodes
+              (put_nodes ∙ ap (λ (l : List Logged). map.insert taken_nodes 0 (node_in l place)) ground.chain_is)
+
           pub rolled : IsRolledTo image point walk (place + 1) new
           rolled =
               rolled_marked image point walk place rolling new before ino at own_at left others roll here (size ∙ inode_is.size) (named_of (block_in (chain image point) place) inode (map.get walk.rows ino) roll inode_is named)
-              (subst (λ (m : Pages). AreMarked image point place m) (sym pages) pages_are) (subst (IsMore rolling.owners) (sym owned_is) more) (subst (AreRight image point) (sym owned_is) right)
+              (subst (λ (m : Pages). AreMarked image point place m) (sym pages) pages_are) nodes_are (subst (IsMore rolling.owners) (sym owned_is) more) (subst (AreRight image point) (sym owned_is) right)
               (subst (λ (m : Pages). AreOwn ino m new.owners) (sym pages) (subst (AreOwn ino all) (sym owned_is) are_own))
               (λ page q there. subst (λ n. IsPastSize image n page q → ⊥) (sym size) (ends page q (ap (λ (m : Pages). map.get m page) (sym pages) ∙ there)))

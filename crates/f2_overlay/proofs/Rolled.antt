@@ -19,7 +19,8 @@ use Rattle.f2_overlay.specs.Lasts.{last_mark_before}
 use Rattle.f2_overlay.specs.Pending.{IsLeft, ArePending}
 use Rattle.f2_overlay.specs.Owning.{IsMore, AreRight, AreOwn}
 use Rattle.f2_overlay.specs.Rolling.{AreMarked, AreOwnersTo, EndsWell, IsRolledTo}
-use Rattle.f2_overlay.specs.Rolls.{IsRollNamed, IsRoll, AreRollsTo}
+use Rattle.f2_overlay.specs.Taking.{AreNodesAt}
+use Rattle.f2_overlay.specs.Rolls.{IsRollNamed, IsRoll}
 use Rattle.f2_overlay.specs.declared.rolls.Roll.{Roll}
 use Rattle.f2_overlay.specs.declared.marks.Rolling.{Rolling}
 use Rattle.f2_recover.proofs.Sets.{not_both}
@@ -29,7 +30,7 @@ module _ (image : Image) (point : Checkpoint) (walk : Walk) (place : ℕ) (old n
   -- at a mark
   module _ (ino : ℕ) (is : IsMarkedAt image point place (block_in (chain image point) place)) (own : footer_ino (block_in (chain image point) place) ≡ ino) (left : IsLeft old.pending new.pending ino)
       (others : (other : ℕ) → other ≢ ino → map.get new.rolls other ≡ map.get old.rolls other) (roll : Roll) (here : map.get new.rolls ino ≡ Some roll) (size : roll.size ≡ (inode_of (block_in (chain image point) place)).size)
-      (named : IsRollNamed (block_in (chain image point) place) roll (map.get walk.rows ino)) (pages : AreMarked image point place roll.pages) (more : IsMore old.owners new.owners) (right : AreRight image point new.owners)
+      (named : IsRollNamed (block_in (chain image point) place) roll (map.get walk.rows ino)) (pages : AreMarked image point place roll.pages) (nodes : AreNodesAt image point place ino roll.nodes) (more : IsMore old.owners new.owners) (right : AreRight image point new.owners)
       (are_own : AreOwn ino roll.pages new.owners) (ends : (page at : ℕ) → map.get roll.pages page ≡ Some at → ¬ (IsPastSize image roll.size page at)) where
     marked : is_marked (block_in (chain image point) place) ≡ true
     marked = is.marked
@@ -39,7 +40,7 @@ module _ (image : Image) (point : Checkpoint) (walk : Walk) (place : ℕ) (old n
         subst (λ n. IsRoll image point walk n (last_mark_before (chain image point) (place + 1) n) (map.get new.rolls n)) (sym same)
         (subst (λ (o : Option ℕ). IsRoll image point walk ino o (map.get new.rolls ino)) (sym (mark_here (chain image point) place ino marked own))
         (subst (λ (o : Option Roll). IsRoll image point walk ino (Some place) o) (sym here)
-        (record { size = size; named = named; pages = pages.addresses; there = pages.some; within = pages.within })))
+        (record { size = size; named = named; pages = pages.addresses; there = pages.some; within = pages.within; nodes = nodes })))
     roll_of other (inr different) =
         subst (λ (o : Option ℕ). IsRoll image point walk other o (map.get new.rolls other)) (sym (mark_elsewhere (chain image point) place ino marked own other different))
         (subst (λ (o : Option Roll). IsRoll image point walk other (last_mark_before (chain image point) place other) o) (sym (others other different)) (before.rolls other))

@@ -1,5 +1,5 @@
 -- An ino that has no row in the base: it has no node there, unless it is the nid of another node.
-use Rattle.std.proofs.Common.{◌≡◌, ◌≢◌, ◌⊎◌, inl, inr, ℕ, ◌<◌, ◌≤◌, ◌==◌, ◌||◌, nat_le, Bool, true, false, cond, List, refl, sym, ap, subst, ◌∙◌, arith}
+use Rattle.std.proofs.Common.{◌≡◌, ◌≢◌, ◌⊎◌, inl, inr, ℕ, ◌==◌, ◌||◌, nat_le, Bool, true, false, cond, List, refl, sym, ap, subst, ◌∙◌, arith}
 use Rattle.std.specs.Prelude.{Option, Some, None, is_some}
 use Rattle.std.specs.FinMap as map
 use Rattle.std.specs.FinSet as set
@@ -11,7 +11,7 @@ use Rattle.f2_format.specs.Geometry.{nid_limit}
 use Rattle.f2_image.specs.Images.{Image}
 use Rattle.f2_image.specs.Packs.{Checkpoint}
 use Rattle.f2_image.specs.Nodes.{place_of_nid, node, block_there}
-use Rattle.f2_image.specs.Reached.{IsMarkedAt, IsTaken, marked}
+use Rattle.f2_image.specs.Reached.{IsMarkedAt, marked}
 use Rattle.f2_image.specs.Faults.{HasTable, HasNid, IsBadNat, in_base}
 use Rattle.f2_image.specs.Faults as faults
 use Rattle.f2_recover.specs.Walking.{IsBaseRead}

@@ -8,12 +8,13 @@ use Rattle.f2_format.specs.Inode.{inode_of}
 use Rattle.f2_format.specs.Offsets.{page_limit}
 use Rattle.f2_image.specs.Images.{Image}
 use Rattle.f2_image.specs.Packs.{Checkpoint}
-use Rattle.f2_image.specs.Chains.{Logged, chain, block_in, marked_address}
+use Rattle.f2_image.specs.Chains.{Logged, chain, marked_address}
 use Rattle.f2_image.specs.Reached.{IsBasePage, IsMarkedAt}
 use Rattle.f2_image.specs.Faults.{IsPastSize}
 use Rattle.f2_overlay.specs.Rolls.{AreRollsTo}
 use Rattle.f2_overlay.specs.Pending.{ArePending}
 use Rattle.f2_overlay.specs.Owning.{Owned, Pages, AreRight}
+use Rattle.f2_overlay.specs.Taking.{Nodes}
 use Rattle.f2_overlay.specs.Putting.{address_of}
 use Rattle.f2_overlay.specs.declared.rolls.Roll.{Roll}
 use Rattle.f2_overlay.specs.declared.marks.Rolling.{Rolling}
@@ -36,6 +37,11 @@ abbrev pub StartAs : Option Roll → Option BaseRow → Pages → Type 0
 StartAs (Some roll) row pages = pages ≡ roll.pages
 StartAs None (Some row) pages = (limit : ℕ) → IsList limit row.file.nodes.pages.pages row.file.nodes.list.items → (page : ℕ) → map.get pages page ≡ map.get row.file.nodes.pages.pages page
 StartAs None None pages = pages ≡ map.empty
+
+-- the nodes of the log with which a mark of a file begins: those of its mark before, else none
+abbrev pub StartNodesAs : Option Roll → Nodes → Type 0
+StartNodesAs (Some roll) nodes = nodes ≡ roll.nodes
+StartNodesAs None nodes = nodes ≡ map.empty
 
 -- the pages of a mark
 pub record AreMarked (image : Image) (point : Checkpoint) (place : ℕ) (pages : Pages) : Type 0 where

@@ -1,5 +1,5 @@
 -- The files that were marked since the checkpoint, as their last marks have them.
-use Rattle.std.specs.Prelude.{◌≡◌, ◌≢◌, ◌⊎◌, ℕ, ◌*◌, ◌<◌, ◌≤◌, IsTrue, List, length, take, Option, Some, None}
+use Rattle.std.specs.Prelude.{◌≡◌, ◌≢◌, ℕ, ◌*◌, ◌<◌, IsTrue, List, length, take, Option, Some, None}
 use Rattle.std.specs.Option.{unwrap_or}
 use Rattle.std.specs.Ordering.{nat_cmp}
 use Rattle.std.specs.FinMap as map
@@ -12,6 +12,7 @@ use Rattle.f2_image.specs.Chains.{chain, block_in, marked_address}
 use Rattle.f2_image.specs.Reached.{IsPage, IsMarkedAt, IsMarkedPage, HasMore}
 use Rattle.f2_image.specs.Faults.{IsPastSize, IsSomeBlock}
 use Rattle.f2_overlay.specs.Lasts.{last_mark_before}
+use Rattle.f2_overlay.specs.Taking.{AreNodesAt}
 use Rattle.f2_overlay.specs.declared.rolls.Roll.{Roll}
 use Rattle.f2_recover.specs.declared.rows.BaseRow.{BaseRow}
 use Rattle.f2_recover.specs.declared.walk.Walk.{Walk}
@@ -21,13 +22,14 @@ abbrev pub IsRollNamed : List ℕ → Roll → Option BaseRow → Type 0
 IsRollNamed block roll (Some row) = (roll.parent ≡ row.parent) × (roll.name ≡ row.name)
 IsRollNamed block roll None = (roll.parent ≡ (inode_of block).parent) × (roll.name ≡ take (inode_of block).name_length (inode_of block).name)
 
--- a file is as its mark at a place has it: its size, and the addresses of its pages that aren't 0
+-- a file is as its mark at a place has it: its size, the addresses of its pages that aren't 0, and its nodes in the node log
 pub record IsRollAt (image : Image) (point : Checkpoint) (walk : Walk) (place ino : ℕ) (roll : Roll) : Type 0 where
   pub size : roll.size ≡ (inode_of (block_in (chain image point) place)).size
   pub named : IsRollNamed (block_in (chain image point) place) roll (map.get walk.rows ino)
   pub pages : (page : ℕ) → page < page_limit → unwrap_or (map.get roll.pages page) 0 ≡ marked_address image point (chain image point) place page
   pub there : (page at : ℕ) → map.get roll.pages page ≡ Some at → at ≢ 0
   pub within : (page at : ℕ) → map.get roll.pages page ≡ Some at → page < page_limit
+  pub nodes : AreNodesAt image point place ino roll.nodes
 
 -- a file that was marked is as its last mark has it
 abbrev pub IsRoll : Image → Checkpoint → Walk → ℕ → Option ℕ → Option Roll → Type 0

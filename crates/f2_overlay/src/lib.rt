@@ -23,9 +23,11 @@ mod owners;
 mod pending;
 mod putting;
 mod rolls;
+mod taking;
 
 pub use addresses::Addresses;
 pub use lasts::{LastMarks, last_marks};
 pub use names::check_names;
 pub use nids::check_nids;
 pub use rolls::{Roll, Rolls, roll_files};
+pub use taking::{NodeAt, RollNodes};

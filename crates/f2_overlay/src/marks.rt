@@ -18,7 +18,7 @@ ghost use Rattle.f2_recover.specs.Walking.{IsBaseRead};
 ghost use Rattle.f2_recover.specs.declared.faults.MountFault.{MountFault};
 ghost use Rattle.f2_recover.specs.declared.faults.BadImage.{BadImage};
 ghost use Rattle.f2_overlay.specs.Owning.{Pages};
-ghost use Rattle.f2_overlay.specs.Rolling.{IsGround, IsNamedAs, IsRolledTo, StartAs};
+ghost use Rattle.f2_overlay.specs.Rolling.{IsGround, IsNamedAs, IsRolledTo, StartAs, StartNodesAs};
 ghost use Rattle.f2_overlay.specs.Pending.{ArePending};
 
 use crate::addresses::Addresses;
@@ -27,6 +27,7 @@ use crate::owners::{Owner, Owners};
 use crate::pending::Pending;
 use crate::putting::{put_addresses, put_nodes};
 use crate::rolls::{Roll, Rolls};
+use crate::taking::{RollNodes, node_at};
 use f2_disk::Disk;
 use f2_footer::Footer;
 use f2_layout::Geometry;
@@ -70,22 +71,25 @@ fn addresses_of(alloc: Global, list: &[PageAt]) -> Result<Addresses, AllocError>
     Ok(addresses)
 }
 
-/// The pages with which a mark of a file begins: those of its mark before, which is taken out, else those of the base.
-fn start_pages(
+/// The pages and the nodes with which a mark of a file begins: those of its mark before, which is taken out, else the pages of
+/// the base and no nodes of the log.
+fn start_file(
     alloc: Global,
     walk: &Walk,
     rolls: &mut Rolls,
     ino: u32,
-) -> Result<Addresses, AllocError>
-    ensures pages { IfOk result (λ pages. StartAs (map.get rolls.old ino) (map.get walk.now.rows ino) pages) }
+) -> Result<(Addresses, RollNodes), AllocError>
+    ensures pages { IfOk result (λ start. StartAs (map.get rolls.old ino) (map.get walk.now.rows ino) start.0) }
+    ensures nodes { IfOk result (λ start. StartNodesAs (map.get rolls.old ino) start.1) }
     ensures others { (other : ℕ) → other ≢ ino → map.get rolls.new other ≡ map.get rolls.old other }
 {
     if let Some(roll) = rolls.take(ino) {
-        return Ok(roll.pages);
+        return Ok((roll.pages, roll.nodes));
     }
+    let nodes = RollNodes::new(alloc);
     match walk.rows.get(ino) {
-        Some(row) => addresses_of(alloc, &row.file.nodes.list),
-        None => Ok(Addresses::new(alloc)),
+        Some(row) => Ok((addresses_of(alloc, &row.file.nodes.list)?, nodes)),
+        None => Ok((Addresses::new(alloc), nodes)),
     }
 }
 
@@ -144,10 +148,19 @@ fn roll_mark<D: Disk>(
     check_ino(walk, footer)?;
     let inode = inode_at(logged)?;
     let newest = rolling.pending.take(ino);
-    let mut pages = start_pages(alloc, walk, &mut rolling.rolls, ino)?;
+    let (mut pages, mut nodes) = start_file(alloc, walk, &mut rolling.rolls, ino)?;
     let first = Owner { ino, page: 0 };
     put_addresses(g, &mut rolling.owners, &mut pages, first, &inode.addr)?;
-    put_nodes(g, &mut rolling.owners, &mut pages, ino, log, newest)?;
+    put_nodes(
+        g,
+        &mut rolling.owners,
+        &mut pages,
+        &mut nodes,
+        ino,
+        log,
+        newest,
+    )?;
+    nodes.put(0, node_at(logged))?;
     check_end(disk, g, ino, inode.size, &pages)?;
     let (parent, name) = place_of(alloc, walk, ino, &inode)?;
     let roll = Roll {
@@ -155,6 +168,7 @@ fn roll_mark<D: Disk>(
         name,
         size: inode.size,
         pages,
+        nodes,
     };
     rolling.rolls.put(ino, roll)?;
     Ok(())

@@ -12,10 +12,12 @@ ghost use Rattle.f2_recover.specs.declared.faults.MountFault.{MountFault};
 ghost use Rattle.f2_overlay.specs.Owning.{IsMore, AreRight, AreOwn, ArePagesFrom};
 ghost use Rattle.f2_overlay.specs.Pending.{AreWithin};
 ghost use Rattle.f2_overlay.specs.Putting.{IsPut, ArePut, AreNodesPut, AreNodePages};
+ghost use Rattle.f2_overlay.specs.Taking.{AreNodesTaken};
 
 use crate::addresses::Addresses;
 use crate::owners::{Owner, Owners};
 use crate::pending::Newest;
+use crate::taking::{RollNodes, node_at};
 use f2_disk::Block;
 use f2_layout::Geometry;
 use f2_node_block::read_word;
@@ -89,17 +91,19 @@ fn words_of(block: &Block) -> [u32; DIRECT_WORDS]
     words
 }
 
-/// Puts the addresses that direct nodes of the log tell of the pages of a marked file.
+/// Puts the addresses that direct nodes of the log tell of the pages of a marked file, and takes these nodes as the file's.
 pub(crate) fn put_nodes(
     g: &Geometry,
     owners: &mut Owners,
     pages: &mut Addresses,
+    nodes: &mut RollNodes,
     ino: u32,
     log: &[LogBlock],
     mut newest: Newest,
 ) -> Result<(), MountFault>
     requires { AreWithin log.now newest }
     ensures put { OnOk result (AreNodesPut log.now newest map.empty pages.old pages.new) }
+    ensures nodes { OnOk result (AreNodesTaken log.now newest map.empty nodes.old nodes.new) }
     ensures more { OnOk result (IsMore owners.old owners.new) }
     ensures own { OnOk result (AreOwn ino pages.old owners.old → AreOwn ino pages.new owners.new) }
     ensures right { OnOk result ((image : Image) (point : Checkpoint) → point.extent ≡ g.now → AreNodePages image point ino log.now newest → AreRight image point owners.old → AreRight image point owners.new) }
@@ -115,6 +119,7 @@ pub(crate) fn put_nodes(
                 page: page as u32,
             };
             put_addresses(g, owners, pages, first, &words)?;
+            nodes.put(offset, node_at(logged))?;
         }
     }
     Ok(())

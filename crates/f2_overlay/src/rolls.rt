@@ -19,6 +19,7 @@ use crate::addresses::Addresses;
 use crate::marks::{Rolling, roll_block};
 use crate::owners::owners_of_base;
 use crate::pending::Pending;
+use crate::taking::RollNodes;
 use f2_disk::Disk;
 use f2_layout::Geometry;
 use f2_model::Name;
@@ -39,6 +40,9 @@ pub struct Roll {
     pub size: u64,
     /// Where its pages stand; a page that isn't there has no block.
     pub pages: Addresses,
+    /// Its nodes that stand in the node log: its inode, and the newest block up to the mark of each direct node that has one
+    /// there. All others are those of the base.
+    pub nodes: RollNodes,
 }
 
 /// The files that were marked, by their inos.

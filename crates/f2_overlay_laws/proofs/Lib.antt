@@ -9,3 +9,4 @@ pub mod LastMarks
 pub mod LikeRolls
 pub mod RolledRows
 pub mod ReadTree
+pub mod TakenRolls

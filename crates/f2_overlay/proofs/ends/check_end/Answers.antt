@@ -1,6 +1,5 @@
 use Rattle.std.proofs.Common.{◌≡◌, ◌≢◌, ◌∙◌, ℕ, List, sym, ap, subst, refl, arith}
-use Rattle.std.specs.Prelude.{Some, slice_index}
-use Rattle.std.specs.FinMap as map
+use Rattle.std.specs.Prelude.{slice_index}
 use Rattle.f2_format.specs.Geometry.{Extent, is_in_data}
 use Rattle.f2_image.specs.Faults as faults
 use Rattle.f2_overlay.proofs.Maps.{not_none}

@@ -1,4 +1,4 @@
-use Rattle.std.proofs.Common.{◌≡◌, ◌<◌, ◌≤◌, length, subst, arith}
+use Rattle.std.proofs.Common.{◌≡◌, length, subst, arith}
 use Rattle.f2_overlay.proofs.Copies.{AreCopiedTo, copied_none, copied_more, copied_all}
 use Rattle.f2_overlay.proofs.marks.addresses_of.Goals as goal
 

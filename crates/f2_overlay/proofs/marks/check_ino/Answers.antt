@@ -1,4 +1,4 @@
-use Rattle.std.proofs.Common.{◌≡◌, Bool, true, false, sym, ap, ◌∙◌}
+use Rattle.std.proofs.Common.{sym, ap, ◌∙◌}
 use Rattle.std.specs.Prelude.{Option, is_some}
 use Rattle.f2_recover.proofs.Sets.{not_both}
 use Rattle.f2_recover.specs.declared.rows.BaseRow.{BaseRow}

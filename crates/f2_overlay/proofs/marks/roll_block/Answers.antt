@@ -1,4 +1,4 @@
-use Rattle.std.proofs.Common.{◌≡◌, refl, ap, ◌∙◌}
+use Rattle.std.proofs.Common.{refl, ap, ◌∙◌}
 use Rattle.f2_image.specs.Chains.{Logged}
 use Rattle.f2_overlay.specs.declared.marks.Rolling.{Rolling}
 use Rattle.f2_overlay.proofs.RollBlock.{footer_at, no_mark_of_node, no_mark_of_inode, mark_of_inode, noted_behind, passed_behind, rolled_over}

@@ -9,10 +9,11 @@ use Rattle.f2_format.specs.Footer.{footer_ino}
 use Rattle.f2_image.specs.Chains.{Logged, chain, block_in, no_block}
 use Rattle.f2_recover.specs.Faults.{IsRightFault}
 use Rattle.f2_recover.proofs.Telling.{fault_holds}
+use Rattle.f2_overlay.specs.Taking.{node_of}
 use Rattle.f2_overlay.specs.declared.rolls.Roll.{Roll}
 use Rattle.f2_overlay.specs.declared.marks.Rolling.{Rolling}
 use Rattle.f2_overlay.proofs.Maps.{get_put, get_put-other}
-use Rattle.f2_overlay.proofs.PutNodes.{block_at_place}
+use Rattle.f2_overlay.proofs.PutNodes.{block_at_place, logged_at}
 use Rattle.f2_overlay.proofs.OwnersMore.{more_then}
 use Rattle.f2_overlay.proofs.Newer.{pending_marked}
 use Rattle.f2_overlay.proofs.RollMark.{at, newest_within, bad_inode, from_inode, from_nodes, at_end, rolled}
@@ -92,14 +93,14 @@ returns-clause-rolled g c image point ground before =
     let logged = c.index-log-place.result in
     let own = owner_is c.args.log.now c.args.place logged _ _ c.requires.within c.index-log-place.is (c.deref.ensures ∙ ap (λ (x : Logged). x.block) c.logged.view_is) c.read-footer.ensures in
     let block_is = block_at_place c.args.log.now c.args.place logged c.requires.within c.index-log-place.is in
-    let roll : Roll = record { parent = c.in_ok-parent.parent; name = c.in_ok-parent.name; size = c.in_ok-inode.inode.size; pages = c.put_nodes.new.pages } in
-    let new : Rolling = record { rolls = c.put.new.self; pending = c.take-newest.new.self; owners = c.put_nodes.new.owners } in
-    let put = c.in_ok-put.ensures.ok in
+    let roll : Roll = record { parent = c.in_ok-parent.parent; name = c.in_ok-parent.name; size = c.in_ok-inode.inode.size; pages = c.put_nodes.new.pages; nodes = c.put.new.self } in
+    let new : Rolling = record { rolls = c.put-2.new.self; pending = c.take-newest.new.self; owners = c.put_nodes.new.owners } in
+    let put = c.in_ok-put-2.ensures.ok in
     rolled _ c.args.g.now image point c.args.walk.now c.args.log.now ground c.args.place c.read-footer.result.ino c.requires.within c.requires.marked own c.args.rolling.now before c.in_ok-inode.inode logged.block block_is c.in_ok-inode.ensures.inode
     c.take-newest.result c.take-newest.ensures.taken (c.in_ok-check_ino.ensures.free image point ground.base) c.in_ok-pages.pages c.put_addresses.new.pages c.put_nodes.new.pages c.in_ok-pages.ensures.pages c.in_ok-put_addresses.ensures.put c.in_ok-put_nodes.ensures.put c.put_nodes.new.owners
     (λ start. c.in_ok-put_nodes.ensures.own (c.in_ok-put_addresses.ensures.own start)) roll new refl refl c.in_ok-parent.ensures refl c.take-newest.ensures.left
-    (λ other different. ap (λ (m : Rolls). map.get m other) put ∙ get_put-other c.start_pages.new.rolls c.read-footer.result.ino roll other different ∙ c.in_ok-pages.ensures.others other different)
-    (ap (λ (m : Rolls). map.get m c.read-footer.result.ino) put ∙ get_put c.start_pages.new.rolls c.read-footer.result.ino roll) (more_then _ _ _ c.in_ok-put_addresses.ensures.more c.in_ok-put_nodes.ensures.more)
+    (λ other different. ap (λ (m : Rolls). map.get m other) put ∙ get_put-other c.start_file.new.rolls c.read-footer.result.ino roll other different ∙ c.in_ok-pages.ensures.others other different)
+    (ap (λ (m : Rolls). map.get m c.read-footer.result.ino) put ∙ get_put c.start_file.new.rolls c.read-footer.result.ino roll) (more_then _ _ _ c.in_ok-put_addresses.ensures.more c.in_ok-put_nodes.ensures.more)
     (c.in_ok-put_nodes.ensures.right image point ground.extent_is
     (from_nodes _ c.args.g.now image point c.args.walk.now c.args.log.now ground c.args.place c.read-footer.result.ino c.requires.within c.requires.marked own c.args.rolling.now before c.in_ok-inode.inode logged.block block_is c.in_ok-inode.ensures.inode
     c.take-newest.result c.take-newest.ensures.taken)
@@ -107,7 +108,8 @@ returns-clause-rolled g c image point ground before =
     (from_inode _ c.args.g.now image point c.args.walk.now c.args.log.now ground c.args.place c.read-footer.result.ino c.requires.within c.requires.marked own c.args.rolling.now before c.in_ok-inode.inode logged.block block_is c.in_ok-inode.ensures.inode
     c.take-newest.result c.take-newest.ensures.taken)
     before.owners.right))
-    (c.in_ok-check_end.ensures.right image ground.tells)
+    (c.in_ok-check_end.ensures.right image ground.tells) c.in_ok-pages.nodes c.put_nodes.new.nodes c.in_ok-pages.ensures.nodes c.in_ok-put_nodes.ensures.nodes
+    (c.in_ok-put.ensures.ok ∙ ap (map.insert c.put_nodes.new.nodes 0) (c.node_at.ensures ∙ ap node_of (logged_at c.args.log.now c.args.place logged c.requires.within c.index-log-place.is)))
 
 pub returns-clause-pending : goal.returns-clause-pending
 returns-clause-pending g c =

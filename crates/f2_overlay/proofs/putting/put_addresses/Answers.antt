@@ -1,4 +1,4 @@
-use Rattle.std.proofs.Common.{◌≡◌, ◌<◌, length, subst, arith}
+use Rattle.std.proofs.Common.{◌≡◌, length, subst, arith}
 use Rattle.f2_recover.proofs.Telling.{fault_holds}
 use Rattle.f2_overlay.specs.Putting.{ArePutTo}
 use Rattle.f2_overlay.proofs.OwnersMore.{more_same, more_then}

@@ -1,4 +1,4 @@
-use Rattle.std.proofs.Common.{◌≡◌, ◌<◌, ◌≤◌, length, subst, ◌∙◌, arith}
+use Rattle.std.proofs.Common.{◌≡◌, length, subst, arith}
 use Rattle.f2_recover.proofs.Telling.{fault_holds, reads_none, reads_then}
 use Rattle.f2_overlay.specs.declared.marks.Rolling.{Rolling}
 use Rattle.f2_overlay.specs.Rolling.{IsRolledTo}

@@ -1,5 +1,4 @@
-use Rattle.std.proofs.Common.{◌≡◌, ◌≢◌, ◌⊎◌, inl, inr, ℕ, sym, ap, subst, ◌∙◌}
-use Rattle.std.specs.Prelude.{Some, None}
+use Rattle.std.proofs.Common.{◌≡◌, ◌≢◌, ◌⊎◌, inl, inr, sym, ap, ◌∙◌}
 use Rattle.f2_format.specs.Geometry.{Extent, is_in_data}
 use Rattle.f2_image.specs.Faults as faults
 use Rattle.f2_model.proofs.MapViews.{seen-insert}

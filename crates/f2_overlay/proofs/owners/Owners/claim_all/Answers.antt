@@ -1,4 +1,4 @@
-use Rattle.std.proofs.Common.{◌<◌, arith}
+use Rattle.std.proofs.Common.{arith}
 use Rattle.f2_recover.proofs.Telling.{fault_holds}
 use Rattle.f2_overlay.proofs.OwnersMore.{more_same, more_then, more_one, here_one, right_one, listed_more}
 use Rattle.f2_overlay.proofs.owners.Owners.claim_all.Goals as goal
