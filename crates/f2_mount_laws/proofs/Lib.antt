@@ -1,0 +1,22 @@
+-- Proofs of the laws of what a mount takes over.
+pub mod Old
+pub mod Origins
+pub mod Logs
+pub mod Needs
+pub mod TakenNodes
+pub mod TakenPages
+pub mod TakenNames
+pub mod Laid
+pub mod Words
+pub mod Standing
+pub mod Live
+pub mod Elsewhere
+pub mod Proper
+pub mod Chosen
+pub mod WayKinds
+pub mod LastPlaces
+pub mod Fresh
+pub mod OldWays
+pub mod Takes
+pub mod Exists
+pub mod Unmarked
