@@ -49,7 +49,7 @@ differ_append (x ∷ xs) ys one other apart =
     by_part y (inr there) = apart x y (inl refl) there
 
 -- the pairs of a number with each of some others
-abbrev with_first : ℕ → List ℕ → List (ℕ × ℕ)
+abbrev pub with_first : ℕ → List ℕ → List (ℕ × ℕ)
 with_first k ns = map_list (λ (n : ℕ). (k, n)) ns
 
 differ_with : (k : ℕ) (ns : List ℕ) → AllDiffer ns → AllDiffer (with_first k ns)
@@ -63,7 +63,7 @@ differ_with k (n ∷ ns) differ = (
 
 module _ {X : Type 0} (numbers : ℕ × X → List ℕ) where
   -- the pairs of each key with the numbers of its entry
-  abbrev pairs_of : List (ℕ × X) → List (ℕ × ℕ)
+  abbrev pub pairs_of : List (ℕ × X) → List (ℕ × ℕ)
   pairs_of es = flat_map (λ (e : ℕ × X). with_first e.0 (numbers e)) es
 
   differ_pairs : ((e : ℕ × X) → AllDiffer (numbers e)) → (es : List (ℕ × X)) → AllDiffer (map_list (λ (e : ℕ × X). e.0) es) → AllDiffer (pairs_of es)
@@ -76,7 +76,7 @@ module _ {X : Type 0} (numbers : ℕ × X → List ℕ) where
       of_all (λ k. e.0 ≢ k) other.0.0 (map_list (λ (d : ℕ × X). d.0) es) differ.0 (in_map (λ (d : ℕ × X). d.0) other.0 es other.1)
       (ap (λ (q : ℕ × ℕ). q.0) (one.2 ∙ same ∙ sym more.2)))
 
-  length-pairs : (count : X → ℕ) → ((e : ℕ × X) → length (numbers e) ≡ count e.1) → (es : List (ℕ × X)) → length (pairs_of es) ≡ sum_by count (map_list (λ (e : ℕ × X). e.1) es)
+  pub length-pairs : (count : X → ℕ) → ((e : ℕ × X) → length (numbers e) ≡ count e.1) → (es : List (ℕ × X)) → length (pairs_of es) ≡ sum_by count (map_list (λ (e : ℕ × X). e.1) es)
   length-pairs count each [] = refl
   length-pairs count each (e ∷ es) =
       let rest = length-pairs count each es in
@@ -99,10 +99,10 @@ length-keys : {X : Type 0} {K : Type 0} {R : K → K → _} (m : map.FinMap R X)
 length-keys {X} {K} m = length-map (map.entries m) (λ (e : K × X). e.0) ∙ sym (map.len-entries m)
 
 -- the offsets of the nodes of a file with some pages, each once
-abbrev offsets : List ℕ → List ℕ
+abbrev pub offsets : List ℕ → List ℕ
 offsets pages = once_each (offsets_of pages)
 
-length-offsets : (pages : List ℕ) → length (offsets pages) ≡ node_count pages
+pub length-offsets : (pages : List ℕ) → length (offsets pages) ≡ node_count pages
 unfolding nodes_over
 length-offsets pages = length-once (offsets_of pages)
 
@@ -147,7 +147,7 @@ pages_differ : (kind : Kind) (rows : List Row) (row : Row) → AllDiffer (page_n
 pages_differ Regular rows row = keys_differ nat_cmp_total row.pages
 pages_differ Directory rows row = range_differ 0 (dentry_blocks rows row.ino)
 
-length-pages : (kind : Kind) (rows : List Row) (row : Row) → length (page_numbers kind rows row) ≡ data_of_kind kind rows row
+pub length-pages : (kind : Kind) (rows : List Row) (row : Row) → length (page_numbers kind rows row) ≡ data_of_kind kind rows row
 length-pages Regular rows row = length-keys row.pages
 length-pages Directory rows row = length-range_with_len 0 (dentry_blocks rows row.ino)
 

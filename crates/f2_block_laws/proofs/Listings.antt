@@ -77,7 +77,7 @@ pub blocks_counted : (tree : Rows) (directory : ℕ) (dentries : List Dentry) �
 blocks_counted tree directory dentries are = length-packed_blocks dentries ∙ ap blocks_of_names are.names
 
 module _ (most_size : ℕ) (tree : Rows) (good : IsGoodTree most_size tree) (short : HasShortInos tree) where
-  bound_fits : (directory : ℕ) (dentry : Dentry) → IsBound tree directory dentry → IsFitting dentry
+  pub bound_fits : (directory : ℕ) (dentry : Dentry) → IsBound tree directory dentry → IsFitting dentry
   bound_fits directory dentry bound = record {
     name = name_fits dentry.name (subst (λ name. is_good_name name ≡ true) bound.named (good.names dentry.ino bound.row bound.there bound.below));
     ino = short dentry.ino bound.row bound.there;

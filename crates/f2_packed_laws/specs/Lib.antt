@@ -1,0 +1,2 @@
+-- Packed layouts of directories.
+pub mod Packed
