@@ -47,7 +47,7 @@ onto_row end row h =
         by_kind Directory kind led = cc
         by_kind Regular kind led = absurd (cc)
 
-some_names : (o : Option Entries) → is_some o ≡ true → (names : Entries) × (o ≡ Some names)
+pub some_names : (o : Option Entries) → is_some o ≡ true → (names : Entries) × (o ≡ Some names)
 some_names None h = absurd (true≢false (sym h))
 some_names (Some names) h = (names, refl)
 

@@ -24,3 +24,8 @@ pub mod Swaps
 pub mod Truncating
 pub mod Cutting
 pub mod PageOrder
+pub mod Nearest
+pub mod Packs
+pub mod Thawed
+pub mod Counting
+pub mod Joining

@@ -19,11 +19,11 @@ or_true : (a : Bool) → (a || true) ≡ true
 or_true true = refl
 or_true false = refl
 
-abbrev is_among : List ℕ → ℕ → Bool
+abbrev pub is_among : List ℕ → ℕ → Bool
 is_among xs x = list_any (eq_by_cmp nat_cmp x) xs
 
 -- a list has a number that passes where one is found, and the other way round
-passing : (test : ℕ → Bool) (xs : List ℕ) → list_any test xs ≡ true → (x : ℕ) × (is_among xs x ≡ true) × (test x ≡ true)
+pub passing : (test : ℕ → Bool) (xs : List ℕ) → list_any test xs ≡ true → (x : ℕ) × (is_among xs x ≡ true) × (test x ≡ true)
 passing test [] h = absurd (true≢false (sym h))
 passing test (x ∷ xs) h = by_test (passing test xs) (test x) refl h
   where
@@ -31,7 +31,7 @@ passing test (x ∷ xs) h = by_test (passing test xs) (test x) refl h
     by_test rest true is h = (x, ap (λ b. b || is_among xs x) (tied-same x), is)
     by_test rest false is h = let found = rest h in (found.0, ap (λ b. eq_by_cmp nat_cmp found.0 x || b) found.1 ∙ or_true (eq_by_cmp nat_cmp found.0 x), found.2)
 
-passes : (test : ℕ → Bool) (xs : List ℕ) (x : ℕ) → is_among xs x ≡ true → test x ≡ true → list_any test xs ≡ true
+pub passes : (test : ℕ → Bool) (xs : List ℕ) (x : ℕ) → is_among xs x ≡ true → test x ≡ true → list_any test xs ≡ true
 passes test [] x h is = absurd (true≢false (sym h))
 passes test (y ∷ ys) x h is = by_tie (passes test ys x) (eq_by_cmp nat_cmp x y) refl h
   where

@@ -37,6 +37,10 @@ pub found_same : (p q : Pair → Bool) → ((x : Pair) → p x ≡ q x) → (xs 
 found_same p q same [] = refl
 found_same p q same (x ∷ xs) = ap (λ b. cond b (Some x) (find p xs)) (same x) ∙ ap (cond (q x) (Some x)) (found_same p q same xs)
 
+pub filter_same : (p q : Pair → Bool) → ((x : Pair) → p x ≡ q x) → (xs : List Pair) → filter p xs ≡ filter q xs
+filter_same p q same [] = refl
+filter_same p q same (x ∷ xs) = ap (λ b. cond b (x ∷ filter p xs) (filter p xs)) (same x) ∙ ap (λ ys. cond (q x) (x ∷ ys) ys) (filter_same p q same xs)
+
 pub next_first : (r : Option (Bor Pair)) (s t : List Pair) → MatchOption r ((s ≡ []) × (t ≡ [])) (λ x. s ≡ x.now ∷ t) → option_copied r ≡ first_of s
 next_first None s t h = ap first_of (sym h.0)
 next_first (Some x) s t h = ap first_of (sym h)
@@ -45,7 +49,7 @@ pub next_found : (r : Option (Bor Pair)) (s t : List Pair) → MatchOption r ((s
 next_found r s t h p xs is = next_first r s t h ∙ ap first_of is ∙ found_first p xs
 
 -- a pair behind another one in the order has no lesser ino
-not_less : (x y : Pair) → pair_cmp x y ≡ Less → x.0 ≤ y.0
+pub not_less : (x y : Pair) → pair_cmp x y ≡ Less → x.0 ≤ y.0
 not_less x y h = by_test (nat_lt y.0 x.0) refl
   where
     by_test : (b : Bool) → nat_lt y.0 x.0 ≡ b → x.0 ≤ y.0

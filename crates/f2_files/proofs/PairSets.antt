@@ -12,7 +12,7 @@ use Rattle.f2_model.proofs.RisingLemmas.{contains-rising}
 use Rattle.f2_model.specs.Goes.{least_of, second_of}
 use Rattle.f2_model.specs.Rising.{rising}
 use Rattle.f2_model.specs.State.{Pairs, pair_cmp, with_pairs, without_pairs, without_ino}
-use Rattle.f2_reference_state.proofs.SetViews.{pair_cmp_total, pair_cmp-IsAntisymmetric}
+use Rattle.f2_flights.proofs.SetViews.{pair_cmp_total, pair_cmp-IsAntisymmetric}
 use Rattle.f2_files.proofs.PairOrder.{Pair}
 
 -- whether two pairs are the same

@@ -1,5 +1,7 @@
 -- Facts of one variant of a result.
-use Rattle.std.specs.Prelude.{Result, Ok, Err, OnOk, OnErr}
+use Rattle.std.proofs.Common.{◌≡◌, refl, Bor}
+use Rattle.std.specs.Prelude.{Option, Some, None, is_some, Result, Ok, Err, OnOk, OnErr}
+use Rattle.std.specs.Option.{option_copied}
 
 module _ {A E : Type 0} {P Q : Type 0} where
   pub ok_map : (r : Result A E) → (P → Q) → OnOk r P → OnOk r Q
@@ -17,3 +19,7 @@ on_ok (Err e) p = tt
 pub on_err : {A E : Type 0} (r : Result A E) {P : Type 0} → P → OnErr r P
 on_err (Ok a) p = tt
 on_err (Err e) p = p
+
+pub there_copied : {X : Type 0} (o : Option (Bor X)) → is_some o ≡ is_some (option_copied o)
+there_copied None = refl
+there_copied (Some x) = refl

@@ -108,11 +108,25 @@ address_keeps shapes after ino page at made there tree are = by_row (map.get sha
     by_row (Some row) is h =
         subst (λ s. IsShapeOf s tree) (sym (made row is)) (still_alike shapes tree are ino row (record row { pages = map.insert row.pages page at }) is (λ one alike. addressed row one page at h alike))
 
-pub nid_keeps : (shapes after : Shapes) (ino offset nid : ℕ) → ((row : Shape) → map.get shapes ino ≡ Some row → after ≡ map.insert shapes ino (record row { nids = map.insert row.nids offset nid })) → (map.get shapes ino ≡ None → after ≡ shapes)
+unpaged : (shape : Shape) (row : Row) (pages : map.FinMap nat_cmp ℕ) → is_directory shape.kind ≡ true → IsShape shape row → IsShape (record shape { pages = pages }) row
+unpaged shape row pages directory is = record { ino = is.ino; kind = is.kind; parent = is.parent; name = is.name; size = is.size; pages = λ kind q. absurd (true≢false (sym directory ∙ ap is_directory (is.kind ∙ kind))) }
+
+-- the pages of a directory are none of the tree's
+pub directory_keeps : {A E : Type 0} (r : Result A E) (shapes after : Shapes) (ino : ℕ) (change : map.FinMap nat_cmp ℕ → map.FinMap nat_cmp ℕ) → is_directory_there (map.get shapes ino) ≡ true
+    → OnOk r ((row : Shape) → map.get shapes ino ≡ Some row → after ≡ map.insert shapes ino (record row { pages = change row.pages })) → OnErr r (after ≡ shapes) → (tree : Rows) → IsShapeOf shapes tree → IsShapeOf after tree
+directory_keeps (Err e) shapes after ino change there made unmade tree are = subst (λ s. IsShapeOf s tree) (sym unmade) are
+directory_keeps (Ok a) shapes after ino change there made unmade tree are = by_row (map.get shapes ino) refl there
+  where
+    by_row : (o : Option Shape) → map.get shapes ino ≡ o → is_directory_there o ≡ true → IsShapeOf after tree
+    by_row None is h = absurd (true≢false (sym h))
+    by_row (Some row) is h =
+        subst (λ s. IsShapeOf s tree) (sym (made row is)) (still_alike shapes tree are ino row (record row { pages = change row.pages }) is (λ one alike. unpaged row one (change row.pages) h alike))
+
+pub nid_keeps : (shapes after : Shapes) (ino : ℕ) (change : map.FinMap nat_cmp ℕ → map.FinMap nat_cmp ℕ) → ((row : Shape) → map.get shapes ino ≡ Some row → after ≡ map.insert shapes ino (record row { nids = change row.nids })) → (map.get shapes ino ≡ None → after ≡ shapes)
     → (tree : Rows) → IsShapeOf shapes tree → IsShapeOf after tree
-nid_keeps shapes after ino offset nid made missing tree are = by_row (map.get shapes ino) refl
+nid_keeps shapes after ino change made missing tree are = by_row (map.get shapes ino) refl
   where
     by_row : (o : Option Shape) → map.get shapes ino ≡ o → IsShapeOf after tree
     by_row None is = subst (λ s. IsShapeOf s tree) (sym (missing is)) are
     by_row (Some row) is =
-        subst (λ s. IsShapeOf s tree) (sym (made row is)) (still_alike shapes tree are ino row (record row { nids = map.insert row.nids offset nid }) is (λ one alike. numbered row one (map.insert row.nids offset nid) alike))
+        subst (λ s. IsShapeOf s tree) (sym (made row is)) (still_alike shapes tree are ino row (record row { nids = change row.nids }) is (λ one alike. numbered row one (change row.nids) alike))

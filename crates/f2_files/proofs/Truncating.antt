@@ -38,7 +38,7 @@ use Rattle.f2_files.proofs.Swaps.{apart, back, has-filter}
 use Rattle.f2_files.proofs.Writing.{changes}
 
 -- maps with the same keys have them in the same order
-keys_same : {X Y : Type 0} (m : FinMap nat_cmp X) (n : FinMap nat_cmp Y) → ((q : ℕ) → map.contains_key m q ≡ map.contains_key n q) → map.keys m ≡ map.keys n
+pub keys_same : {X Y : Type 0} (m : FinMap nat_cmp X) (n : FinMap nat_cmp Y) → ((q : ℕ) → map.contains_key m q ≡ map.contains_key n q) → map.keys m ≡ map.keys n
 keys_same m n same =
     let members = set.from_list {R = nat_cmp} (map.keys m) in
     sym (rising-is nat_cmp_total nat_cmp-IsAntisymmetric members (map.keys m) (keys_sorted nat_cmp (map.entries m) (map.entries_sorted m)) (λ q. set.contains-from_list nat_cmp_total (map.keys m) q))

@@ -4,3 +4,6 @@ pub mod Led
 pub mod Shape
 pub mod Refused
 pub mod Cuts
+pub mod Packed
+pub mod Near
+pub mod Joins

@@ -1,6 +1,6 @@
 -- A tree without the contents of its pages, and the trees that it is the shape of.
-use Rattle.std.specs.Prelude.{◌≡◌, ℕ, if◌then◌else◌, List, Option, Some, None}
-use Rattle.std.specs.List.{fold}
+use Rattle.std.specs.Prelude.{◌≡◌, ℕ, nat_lt, if◌then◌else◌, List, Option, Some, None}
+use Rattle.std.specs.List.{fold, range_with_len}
 use Rattle.std.specs.Ordering.{nat_cmp}
 use Rattle.std.specs.FinMap as map
 use Rattle.f2_model.specs.Tree.{Rows}
@@ -57,3 +57,7 @@ with_all_pages pages numbers = fold with_page pages numbers
 -- pages without some
 abbrev pub without_all_pages : map.FinMap nat_cmp ℕ → List ℕ → map.FinMap nat_cmp ℕ
 without_all_pages pages numbers = fold (λ left page. map.remove left page) pages numbers
+
+-- the pages below a number: those that were there have their addresses, and the others have 0
+abbrev pub first_pages : ℕ → map.FinMap nat_cmp ℕ → map.FinMap nat_cmp ℕ
+first_pages end pages = map.retain_keys (with_all_pages pages (range_with_len 0 end)) (λ page. nat_lt page end)

@@ -2,7 +2,8 @@
 ghost use Rattle.std.specs.Prelude.{◌≡◌, ◌++◌, ◌∷◌, [], ◌<◌, ◌^◌, ◌&&◌, not, None, OnOk, OnErr, IfOk, nat_lt};
 ghost use Rattle.std.specs.List.{filter, list_any};
 ghost use Rattle.std.specs.FinMap as map;
-ghost use Rattle.f2_files.specs.Shape.{with_all_pages, without_all_pages};
+ghost use Rattle.f2_files.specs.Near.{IsMaybeFirstFrom, IsMaybeLastTo};
+ghost use Rattle.f2_files.specs.Shape.{first_pages, with_all_pages, without_all_pages};
 
 use std::alloc::{AllocError, Global};
 use std::collections::BTreeMap;
@@ -59,6 +60,16 @@ impl Addresses {
         self.pages.len()
     }
 
+    /// The numbers of all pages, rising.
+    pub fn numbers(&self, alloc: Global) -> Result<Vec<u64>, AllocError>
+        ensures { IfOk result (λ numbers. numbers.items ≡ map.keys self.now) }
+    {
+        self.pages
+            .keys()
+            .map(|page| u64::from(*page))
+            .collect(alloc)
+    }
+
     /// Sets the address of a page. Only a page that is new takes memory; an error changes nothing.
     pub fn set(&mut self, page: u32, at: u32) -> Result<(), AllocError>
         ensures ok { OnOk result (self.new ≡ map.insert self.old page at) }
@@ -84,13 +95,33 @@ impl Addresses {
     }
 
     /// The pages from a number on, rising.
-    pub(crate) fn numbers_from(&self, alloc: Global, from: u32) -> Result<Vec<u32>, AllocError>
+    pub fn numbers_from(&self, alloc: Global, from: u32) -> Result<Vec<u32>, AllocError>
         ensures { IfOk result (λ numbers. numbers.items ≡ filter (λ page. not (nat_lt page from)) (map.keys self.now)) }
     {
         self.pages
             .range(from..)
             .map(|(page, _)| *page)
             .collect(alloc)
+    }
+
+    /// The last page up to a number, or `None` where there is none.
+    pub fn last_to(&self, to: u32) -> Option<u32>
+        ensures { IsMaybeLastTo self.now to result }
+    {
+        match self.pages.range(..=to).next_back() {
+            Some((page, _)) => Some(*page),
+            None => None,
+        }
+    }
+
+    /// The first page from a number on, or `None` where there is none.
+    pub fn first_from(&self, from: u32) -> Option<u32>
+        ensures { IsMaybeFirstFrom self.now from result }
+    {
+        match self.pages.range(from..).next() {
+            Some((page, _)) => Some(*page),
+            None => None,
+        }
     }
 
     /// Whether there is a page from one number up to another.
@@ -155,5 +186,17 @@ impl Addresses {
                 Err(error)
             }
         }
+    }
+
+    /// Makes the pages those below a number: those that are there keep their addresses, the others have the address 0.
+    /// Where memory is refused nothing changes.
+    pub(crate) fn resize(&mut self, alloc: Global, end: u32) -> Result<(), AllocError>
+        ensures ok { OnOk result (self.new ≡ first_pages end self.old) }
+        ensures err { OnErr result (self.new ≡ self.old) }
+    {
+        let numbers: Vec<u32> = (0..end).collect(alloc)?;
+        self.add_all(alloc, numbers.as_slice())?;
+        self.cut(end);
+        Ok(())
     }
 }

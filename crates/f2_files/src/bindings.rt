@@ -2,8 +2,12 @@
 ghost use Rattle.std.specs.Prelude.{◌≡◌, ℕ, ◌==◌, ◌<◌, ◌^◌, length, OnOk, OnErr, IfOk};
 ghost use Rattle.std.specs.FinMap as map;
 ghost use Rattle.std.specs.Map.Iter.{ShowsInOrder, deref};
+ghost use Rattle.std.specs.Option.{option_copied};
+ghost use Rattle.f2_format.specs.Packing.{blocks_of_names};
 ghost use Rattle.f2_model.specs.declared.rows.Kind.{Kind};
+ghost use Rattle.f2_files.specs.Packed.{and_come, but_gone};
 
+use crate::packing::{NOTHING_PACKED, is_gone, placed};
 use f2_model::{Kind, Name, Names};
 use std::alloc::{AllocError, Global};
 use std::collections::BTreeMap;
@@ -78,6 +82,27 @@ impl Bindings {
         ensures left { self.new ≡ map.remove self.old name.now }
     {
         self.names.remove(name.as_slice())
+    }
+
+    /// The dentry blocks that the names fill after one left and one came, which stays where it is there already.
+    ///
+    /// It goes over all names.
+    pub(crate) fn blocks_after(&self, gone: Option<&Name>, come: Option<&Name>) -> u64
+        ensures { result ≡ blocks_of_names (and_come (option_copied come.entry) (but_gone (option_copied gone.entry) (map.keys self.now))) }
+    {
+        let mut reach = NOTHING_PACKED;
+        let mut coming = come;
+        for (name, _) in &self.names {
+            if !is_gone(gone, name.as_slice()) {
+                let next = placed(reach, coming, name.as_slice());
+                reach = next.0;
+                coming = next.1;
+            }
+        }
+        match coming {
+            Some(name) => reach.after(name.as_slice()).blocks,
+            None => reach.blocks,
+        }
     }
 
     /// A copy of the names, in byte order.

@@ -2,8 +2,11 @@
 ghost use Rattle.std.specs.Prelude.{◌≡◌, ◌&&◌, Some, OnOk, OnErr, IfOk};
 ghost use Rattle.std.specs.FinMap as map;
 ghost use Rattle.std.specs.List.{list_any};
+ghost use Rattle.std.specs.Option.{option_copied};
+ghost use Rattle.f2_format.specs.Packing.{blocks_of_names};
 ghost use Rattle.f2_model.specs.Tree.{is_directory};
 ghost use Rattle.f2_dir.specs.Entries.{Entries};
+ghost use Rattle.f2_files.specs.Packed.{and_come, but_gone};
 ghost use Rattle.f2_files.specs.Led.{bound_in, led, ino_of, is_occupied, reaches, with_name, without_name};
 
 use crate::bindings::Bindings;
@@ -41,6 +44,13 @@ impl Directories {
             names: BTreeMap::new(alloc),
             alloc,
         }
+    }
+
+    /// Whether a directory is there.
+    pub(crate) fn contains(&self, directory: u32) -> bool
+        ensures { result ≡ map.contains_key self.now directory }
+    {
+        self.names.get(&directory).is_some()
     }
 
     /// What a name of a directory is bound to, or `None` where there is no such directory or name.
@@ -149,6 +159,21 @@ impl Directories {
     {
         if let Some(names) = self.names.get_mut(&directory) {
             let _ = names.take(name);
+        }
+    }
+
+    /// The dentry blocks that the names of a directory fill after one left and one came; none where it isn't there.
+    pub(crate) fn blocks_after(
+        &self,
+        directory: u32,
+        gone: Option<&Name>,
+        come: Option<&Name>,
+    ) -> u64
+        ensures { (names : Entries) → map.get self.now directory ≡ Some names → result ≡ blocks_of_names (and_come (option_copied come.entry) (but_gone (option_copied gone.entry) (map.keys names))) }
+    {
+        match self.names.get(&directory) {
+            Some(names) => names.blocks_after(gone, come),
+            None => 0,
         }
     }
 

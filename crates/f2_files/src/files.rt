@@ -1,13 +1,17 @@
 //! What a running volume knows of its files.
 ghost use Rattle.std.specs.Prelude.{◌≡◌, ℕ, Some, Ok, IfOk};
 ghost use Rattle.std.specs.FinMap as map;
-ghost use Rattle.f2_model.specs.Tree.{Rows, IsGoodTree, walk};
+ghost use Rattle.std.specs.Option.{option_copied};
+ghost use Rattle.f2_format.specs.Packing.{blocks_of_names};
+ghost use Rattle.f2_model.specs.Rising.{rising};
+ghost use Rattle.f2_model.specs.Tree.{Rows, IsGoodTree, names_in, walk};
 ghost use Rattle.f2_model.specs.Call.{refusal, names_told};
 ghost use Rattle.f2_model.specs.declared.replies.Reply.TheVariants as reply;
 ghost use Rattle.f2_model.specs.declared.rows.Row.{Row};
 ghost use Rattle.f2_model.specs.declared.rows.Kind.TheVariants.{Directory};
 ghost use Rattle.f2_files.specs.Known.{known_root};
 ghost use Rattle.f2_files.specs.Led.{ino_at};
+ghost use Rattle.f2_files.specs.Packed.{names_after};
 ghost use Rattle.f2_files.specs.Shape.{IsShapeOf};
 
 use crate::addresses::Addresses;
@@ -16,8 +20,8 @@ use crate::pairs::Pairs;
 use crate::refusals::refused_by;
 use crate::shapes::{Shape, Shapes};
 use f2_blocks::Nids;
+use f2_flights::{Flights, Inos};
 use f2_model::{Kind, Limits, Name, Names, ROOT, Reply, Request};
-use f2_reference_state::{Flights, Inos};
 use std::alloc::{AllocError, Global};
 use std::marker::Model;
 
@@ -85,6 +89,17 @@ impl Files {
             → IfOk result (λ names. reply.Names names ≡ names_told tree (Ok row)) }
     {
         self.directories.list(ino)
+    }
+
+    /// The dentry blocks that the names of a directory fill after one left and one came, which stays where it is there
+    /// already.
+    ///
+    /// It takes no memory and goes over all names of that directory, since no count of its blocks is kept.
+    pub fn blocks_after(&self, directory: u32, gone: Option<&Name>, come: Option<&Name>) -> u64
+        ensures { (most : ℕ) (tree : Rows) (row : Row) → IsGoodTree most tree → IsShapeOf self.now.shapes tree → map.get tree directory ≡ Some row → row.kind ≡ Directory
+            → result ≡ blocks_of_names (rising (names_after (option_copied gone.entry) (option_copied come.entry) (names_in (map.values tree) directory))) }
+    {
+        self.directories.blocks_after(directory, gone, come)
     }
 
     /// What is known of the tree of the root alone: nothing is dirty, moved, shrunk or in flight.

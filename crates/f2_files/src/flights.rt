@@ -7,10 +7,10 @@ ghost use Rattle.f2_model.specs.Fallback.{frozen_ino};
 ghost use Rattle.f2_model.specs.Lists.{least_number};
 ghost use Rattle.f2_model.specs.State.{State};
 ghost use Rattle.f2_model.specs.Step.{first_key, is_check, is_shut, freezes, open_position, draws_next};
-ghost use Rattle.f2_reference_state.specs.Parts.{flight_of};
+ghost use Rattle.f2_flights.specs.Parts.{flight_of};
 
 use crate::files::Files;
-use f2_reference_state::{Flight, Part};
+use f2_flights::{Flight, Part};
 use std::alloc::AllocError;
 
 impl Files {

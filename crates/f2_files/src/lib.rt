@@ -11,17 +11,23 @@
 //! (`Follows`), and each row the addresses and nids that it had (`ArePlacesKept`), but for those of pages that a truncate
 //! takes away (`ArePlacesCut`). No call needs the contents of a page, and one that is refused memory leaves all as it was.
 //!
+//! A volume begins with [`Files::root_alone`], and takes over the rows that a mount found by [`Files::add_row`], from the
+//! root down.
+//!
 //! `specs/Led` says how names lead through directories alone, and when directories know them rightly, `specs/Refused`
 //! how they refuse requests, `specs/Cuts` what a cut at a size takes out of a file.
 #![tactic(auto)]
 
 mod addresses;
 mod bindings;
+mod changed;
 mod creates;
 mod directories;
 mod dirt;
 mod files;
 mod flights;
+mod joins;
+mod packing;
 mod pairs;
 mod places;
 mod refusals;
@@ -34,4 +40,5 @@ mod writes;
 
 pub use addresses::Addresses;
 pub use files::Files;
+pub use joins::RowFault;
 pub use shapes::Shape;

@@ -1,14 +1,24 @@
 //! Pages and direct nodes of files.
-ghost use Rattle.std.specs.Prelude.{◌≡◌, ◌==◌, ◌++◌, ◌∷◌, [], not, nat_lt, OnOk, OnErr, IfOk};
-ghost use Rattle.std.specs.List.{find, list_any};
+ghost use Rattle.std.specs.Prelude.{◌≡◌, ◌==◌, ◌++◌, ◌∷◌, [], not, nat_lt, None, IfNone, IfSome, OnOk, OnErr, IfOk};
+ghost use Rattle.std.specs.List.{filter_map, find, list_any};
+ghost use Rattle.std.specs.FinMap as map;
 ghost use Rattle.std.specs.FinSet as set;
+ghost use Rattle.f2_model.specs.Fallback.{frozen_ino, pairs_of};
 ghost use Rattle.f2_model.specs.Rising.{rising};
 ghost use Rattle.f2_model.specs.State.{with_pairs, without_pairs, without_ino};
 ghost use Rattle.f2_model.specs.Step as machine;
 
+use f2_flights::Flights;
 use std::alloc::{AllocError, Global};
 use std::collections::BTreeSet;
 use std::marker::Model;
+
+/// Whether a call in flight keeps a file from changing.
+fn is_frozen(flights: &Flights, ino: u32) -> bool
+    ensures { result ≡ list_any (λ one. one == ino) (filter_map frozen_ino (map.values flights.now)) }
+{
+    flights.freezing(ino).is_some()
+}
 
 /// A set of pairs of an ino and the number of a page, or the offset of a direct node, in that file.
 #[derive(Debug, Drop)]
@@ -90,6 +100,51 @@ impl Pairs {
     {
         let pair = self.first_from(ino)?;
         if pair.0 == ino { Some(pair.1) } else { None }
+    }
+
+    /// How many numbers of a file are in the set. It costs what it counts.
+    pub(crate) fn count_of(&self, ino: u32) -> usize
+        ensures { result ≡ pairs_of ino self.now }
+    {
+        self.pairs
+            .range((ino, 0)..)
+            .take_while(|pair| pair.0 == ino)
+            .count()
+    }
+
+    /// Whether there is no pair.
+    pub(crate) fn is_empty(&self) -> bool
+        ensures { result ≡ (set.len self.now == 0) }
+    {
+        self.pairs.is_empty()
+    }
+
+    /// The greatest ino that has a number in the set.
+    fn last_ino(&self) -> Option<u32>
+        ensures none { IfNone result (rising self.now ≡ []) }
+        ensures last { IfSome result (λ ino. find (λ pair. nat_lt ino pair.0) (rising self.now) ≡ None) }
+    {
+        let pair = self.pairs.iter().next_back()?;
+        Some(pair.0)
+    }
+
+    /// The least pair of a file that no call in flight keeps from changing. A file that one keeps costs one step, however
+    /// many numbers of it are in the set.
+    pub(crate) fn first_thawed(&self, flights: &Flights) -> Option<(u32, u32)>
+        ensures { result ≡ find (λ pair. not (list_any (λ ino. ino == pair.0) (filter_map frozen_ino (map.values flights.now)))) (rising self.now) }
+    {
+        let last = self.last_ino()?;
+        let mut from = 0;
+        while let Some(pair) = self.first_from(from) {
+            if !is_frozen(flights, pair.0) {
+                return Some(pair);
+            }
+            if pair.0 >= last {
+                return None;
+            }
+            from = pair.0 + 1;
+        }
+        None
     }
 
     /// Takes all numbers of a file out.

@@ -12,8 +12,8 @@ use crate::directories::Directories;
 use crate::files::Files;
 use crate::refusals::led_parent;
 use crate::shapes::Shapes;
+use f2_flights::Inos;
 use f2_model::{Kind, Name, Path};
-use f2_reference_state::Inos;
 use std::alloc::{AllocError, Global};
 
 /// An equal copy of the last name of a path, empty for the root.

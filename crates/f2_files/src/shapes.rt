@@ -3,14 +3,14 @@ ghost use Rattle.std.specs.Prelude.{◌≡◌, ◌≤◌, All, Some, None, OnOk,
 ghost use Rattle.std.specs.FinMap as map;
 ghost use Rattle.std.specs.Option.{option_copied};
 ghost use Rattle.f2_model.specs.Content.{end_of, raised_size};
-ghost use Rattle.f2_reference_calls.specs.Given.{MOST_SIZE};
-ghost use Rattle.f2_files.specs.Shape.{with_all_pages, without_all_pages};
+ghost use Rattle.f2_spans.specs.Spans.{MOST_SIZE};
+ghost use Rattle.f2_files.specs.Shape.{first_pages, nid_in, with_all_pages, without_all_pages};
 ghost use Rattle.f2_files.specs.declared.shapes.Shape.{Shape};
 
 use crate::addresses::Addresses;
 use f2_blocks::Nids;
 use f2_model::{Kind, Name, Piece};
-use f2_reference_calls::raised_size;
+use f2_spans::raised_size;
 use std::alloc::{AllocError, Global};
 use std::collections::BTreeMap;
 use std::marker::Model;
@@ -127,6 +127,19 @@ impl Shapes {
         }
     }
 
+    /// Makes the pages of a row that is there those below a number, at the addresses that they have, or at 0. Where memory
+    /// is refused nothing changes.
+    pub(crate) fn resize(&mut self, alloc: Global, ino: u32, end: u32) -> Result<(), AllocError>
+        ensures there { OnOk result ((row : Shape) → map.get self.old ino ≡ Some row → self.new ≡ map.insert self.old ino (record row { pages = first_pages end row.pages })) }
+        ensures missing { map.get self.old ino ≡ None → self.new ≡ self.old }
+        ensures err { OnErr result (self.new ≡ self.old) }
+    {
+        match self.rows.get_mut(&ino) {
+            Some(row) => row.pages.resize(alloc, end),
+            None => Ok(()),
+        }
+    }
+
     /// Sets the nid of a node of a row that is there. Where memory is refused nothing changes.
     pub(crate) fn set_nid(&mut self, ino: u32, offset: u32, nid: u32) -> Result<(), AllocError>
         ensures there { OnOk result ((row : Shape) → map.get self.old ino ≡ Some row → self.new ≡ map.insert self.old ino (record row { nids = map.insert row.nids offset nid })) }
@@ -136,6 +149,18 @@ impl Shapes {
         match self.rows.get_mut(&ino) {
             Some(row) => row.nids.put(offset, nid),
             None => Ok(()),
+        }
+    }
+
+    /// Takes the nid of a node of a row that is there out, and answers it; `None` where it has none.
+    pub(crate) fn take_nid(&mut self, ino: u32, offset: u32) -> Option<u32>
+        ensures taken { result ≡ nid_in offset (map.get self.old ino) }
+        ensures there { (row : Shape) → map.get self.old ino ≡ Some row → self.new ≡ map.insert self.old ino (record row { nids = map.remove row.nids offset }) }
+        ensures missing { map.get self.old ino ≡ None → self.new ≡ self.old }
+    {
+        match self.rows.get_mut(&ino) {
+            Some(row) => row.nids.take(offset),
+            None => None,
         }
     }
 

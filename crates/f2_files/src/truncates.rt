@@ -6,7 +6,7 @@ ghost use Rattle.std.specs.FinSet as set;
 ghost use Rattle.f2_model.specs.Content.{begins_before};
 ghost use Rattle.f2_model.specs.State as machine;
 ghost use Rattle.f2_model.specs.declared.requests.Request.TheVariants.{Truncate};
-ghost use Rattle.f2_reference_calls.specs.Given.{MOST_SIZE};
+ghost use Rattle.f2_spans.specs.Spans.{MOST_SIZE};
 ghost use Rattle.f2_files.specs.Cuts.{has_page_in, nodes_gone, nodes_kept, page_cut, pages_past};
 ghost use Rattle.f2_files.specs.Known.{ArePlacesCut, Follows, IsAllowed, LeadsTo};
 
@@ -16,12 +16,10 @@ use crate::pairs::Pairs;
 use crate::shapes::Shape;
 use crate::touches::directs_of;
 use crate::writes::touch;
-use f2_reference_state::Inos;
+use f2_flights::Inos;
 use f2_shape::{NODE_SLOTS, first_page};
+use f2_spans::PAGE;
 use std::alloc::{AllocError, Global};
-
-/// The bytes of a page.
-const PAGE: u64 = 4096;
 
 /// What a cut takes out of a file, and what is dirty after it.
 #[derive(Drop)]

@@ -3,13 +3,14 @@ ghost use Rattle.std.specs.Prelude.{◌≡◌, ◌≤◌, All, OnOk, OnErr, IfOk
 ghost use Rattle.f2_model.specs.Content.{end_of};
 ghost use Rattle.f2_model.specs.State.{with_pairs, without_pairs};
 ghost use Rattle.f2_model.specs.declared.requests.Request.TheVariants.{Write};
-ghost use Rattle.f2_reference_calls.specs.Given.{MOST_SIZE};
+ghost use Rattle.f2_spans.specs.Spans.{MOST_SIZE};
 ghost use Rattle.f2_files.specs.Known.{ArePlacesKept, IsAllowed, Follows};
 
 use crate::files::Files;
 use crate::pairs::Pairs;
-use crate::touches::{directs_of, pages_of_pieces};
+use crate::touches::directs_of;
 use f2_model::{Path, Piece};
+use f2_spans::pages_of_pieces;
 use std::alloc::{AllocError, Global};
 
 /// The pages and the direct nodes of a file that weren't dirty before.

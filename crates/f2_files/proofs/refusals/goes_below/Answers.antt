@@ -2,7 +2,7 @@ use Rattle.std.proofs.Common.{Bool, ◌&&◌, length, take, ap, sym, ◌∙◌, 
 use Rattle.std.specs.Cmp.Lexicographic.{pointwise}
 use Rattle.std.proofs.lemmas.Bool.{lt-ltb}
 use Rattle.f2_model.specs.Names.{same_name}
-use Rattle.f2_reference_calls.proofs.Agreed.{agreed, and_true}
+use Rattle.f2_spans.proofs.Agreed.{agreed, and_true}
 use Rattle.f2_files.proofs.refusals.goes_below.Goals as goal
 
 pub returns-then-top-path : goal.returns-then-top-path

@@ -13,4 +13,4 @@ invariant_of-self c =
     c.set_nid.ensures.there c.set_nid.ensures.missing c.set_nid.ensures.err
 
 pub returns-clause-keeps : goal.returns-clause-keeps
-returns-clause-keeps c = ok_map c.set_nid.result (λ made. λ tree are. nid_keeps c.self.inside.shapes c.set_nid.new.self c.args.ino c.args.offset c.args.nid made c.set_nid.ensures.missing tree (subst (λ (k : Known). IsShapeOf k.shapes tree) (sym c.self.view_is) are)) c.set_nid.ensures.there
+returns-clause-keeps c = ok_map c.set_nid.result (λ made. λ tree are. nid_keeps c.self.inside.shapes c.set_nid.new.self c.args.ino (λ nids. map.insert nids c.args.offset c.args.nid) made c.set_nid.ensures.missing tree (subst (λ (k : Known). IsShapeOf k.shapes tree) (sym c.self.view_is) are)) c.set_nid.ensures.there

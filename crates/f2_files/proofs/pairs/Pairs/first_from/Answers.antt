@@ -2,8 +2,8 @@ use Rattle.std.proofs.Common.{◌≡◌, ap, ◌∙◌, List, true, ◌&&◌}
 use Rattle.std.specs.List.{find, filter}
 use Rattle.std.specs.Ordering.{is_le}
 use Rattle.f2_model.specs.State.{pair_cmp}
-use Rattle.f2_reference_calls.proofs.Agreed.{and_true}
-use Rattle.f2_reference_state.proofs.SetViews.{pair_cmp_total, pair_cmp-IsAntisymmetric, keys-items}
+use Rattle.f2_spans.proofs.Agreed.{and_true}
+use Rattle.f2_flights.proofs.SetViews.{pair_cmp_total, pair_cmp-IsAntisymmetric, keys-items}
 use Rattle.f2_files.proofs.PairOrder.{Pair, from_ino, from_start, found_same, next_found}
 use Rattle.f2_files.proofs.pairs.Pairs.first_from.Goals as goal
 

@@ -1,4 +1,4 @@
-use Rattle.f2_reference_state.proofs.SetViews.{pair_cmp_total, pair_cmp-IsAntisymmetric, keys-insert}
+use Rattle.f2_flights.proofs.SetViews.{pair_cmp_total, pair_cmp-IsAntisymmetric, keys-insert}
 use Rattle.f2_files.proofs.pairs.Pairs.insert.Goals as goal
 
 pub returns-clause-ok : goal.returns-clause-ok

@@ -1,4 +1,4 @@
-use Rattle.f2_reference_state.proofs.SetViews.{pair_cmp_total, pair_cmp-IsAntisymmetric, keys-remove}
+use Rattle.f2_flights.proofs.SetViews.{pair_cmp_total, pair_cmp-IsAntisymmetric, keys-remove}
 use Rattle.f2_files.proofs.pairs.Pairs.remove.Goals as goal
 
 pub returns : goal.returns
