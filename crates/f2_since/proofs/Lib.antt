@@ -1,0 +1,10 @@
+pub mod Telling
+pub mod Holding
+pub mod Ordered
+pub mod Among
+pub mod Frozen
+pub mod Fsyncs
+pub mod Settled
+pub mod Undone
+pub mod Begun
+pub mod Parting
