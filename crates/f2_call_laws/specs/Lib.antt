@@ -1,0 +1,3 @@
+-- Calls between the events of a running volume, and the flusher.
+pub mod Whole
+pub mod Calls
