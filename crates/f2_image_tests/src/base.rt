@@ -14,7 +14,7 @@ use std::alloc::Global;
 use std::test::Fail;
 
 /// The base of an image of 128 blocks.
-fn base_of(alloc: Global, disk: &mut MemDisk) -> Result<Result<Walk, MountFault>, Fail> {
+pub(crate) fn base_of(alloc: Global, disk: &mut MemDisk) -> Result<Result<Walk, MountFault>, Fail> {
     let geometry = Geometry::new(128, 1)?;
     if geometry.blocks() > disk.blocks() || disk.blocks() < 4 {
         return Err(Fail::from("no image"));

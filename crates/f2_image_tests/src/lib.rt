@@ -13,3 +13,5 @@ mod logs;
 mod recovered;
 #[cfg(test)]
 mod start;
+#[cfg(test)]
+mod takeover;

@@ -23,7 +23,7 @@ fn direct(at: u32, page: u32) -> NodeAt {
 
 /// The small image with a log: file 4 is written anew, its direct node before its inode; `/d/n` is new; and a direct node of
 /// file 4 comes after its last mark.
-fn image_with_log(alloc: Global) -> Result<MemDisk, Fail> {
+pub(crate) fn image_with_log(alloc: Global) -> Result<MemDisk, Fail> {
     let mut disk = small_image(alloc)?;
     put_node(&mut disk, direct(20, 43))?;
     put_inode(&mut disk, InodeAt { at: 21, ..AGAIN })?;
