@@ -8,9 +8,13 @@ mod bitset;
 #[cfg(test)]
 mod blocks;
 #[cfg(test)]
+mod call_size;
+#[cfg(test)]
 mod dir;
 #[cfg(test)]
 mod disk;
+#[cfg(test)]
+mod files;
 #[cfg(test)]
 mod gate;
 #[cfg(test)]
