@@ -36,7 +36,7 @@ leaves_rest state live pages nodes moved shrunk = record {
 
 module _ (lists : Contents) (layout : Layout) (state : State) (places : Places) (unwritten : Unwritten) (whole : IsKeptWhole lists layout state places unwritten) where
   abbrev limits : Limits
-  limits = image_limits layout.base.point.extent
+  limits = image_limits layout.base.ckpt.geom
 
   pub frozen_row : (at : ℕ) → IsFrozen state.flights at → (row : Row) × (map.get state.live at ≡ Some row) × (row.kind ≡ Regular)
   frozen_row at frozen = (whole.kept.fsyncs frozen.0 at frozen.1.0 frozen.1.1).file

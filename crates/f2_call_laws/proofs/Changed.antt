@@ -33,9 +33,9 @@ use Rattle.f2_call_laws.proofs.SamePages.{same_page, no_page, elsewhere_still, o
 use Rattle.f2_call_laws.proofs.SameFsyncs.{fsyncs_now}
 
 module _ (limits : Limits) (lists : Contents) (layout : Layout) (state after : State) (places now : Places) (unwritten left : Unwritten) (whole : IsKeptWhole lists layout state places unwritten)
-    (proper : IsProperTree (image_limits layout.base.point.extent) after.live) (follows : ArePlacesAfter layout state after places now unwritten left) (right : DirtiesRight limits state after) where
-  live_now : IsLiveAt lists layout.base.point.extent after.live now left
-  live_now = changes_in_memory_keep_live lists layout.base.point.extent state.live after.live places now unwritten left whole.kept.live (laid_after layout state after places now unwritten left whole.kept.live.laid follows) follows.rows follows.others
+    (proper : IsProperTree (image_limits layout.base.ckpt.geom) after.live) (follows : ArePlacesAfter layout state after places now unwritten left) (right : DirtiesRight limits state after) where
+  live_now : IsLiveAt lists layout.base.ckpt.geom after.live now left
+  live_now = changes_in_memory_keep_live lists layout.base.ckpt.geom state.live after.live places now unwritten left whole.kept.live (laid_after layout state after places now unwritten left whole.kept.live.laid follows) follows.rows follows.others
 
   -- a page whose direct node isn't dirty isn't dirty
   clean_page : (ino page offset : ℕ) → direct_of page ≡ Some offset → set.contains after.dirty_nodes (ino, offset) ≡ false → set.contains after.dirty_pages (ino, page) ≡ false
@@ -74,7 +74,7 @@ module _ (limits : Limits) (lists : Contents) (layout : Layout) (state after : S
     one_slot = λ place a b. whole.kept.tied.one_slot place (slot_was place a) (slot_was place b);
     one_file = λ seat other ino a b p q. whole.kept.tied.one_file seat other ino a b (sym (ap (λ f. map.get f seat) right.rest.flights) ∙ p) (sym (ap (λ f. map.get f other) right.rest.flights) ∙ q);
     open_apart = λ place small is_open. elsewhere_still lists layout state after places now unwritten left whole follows (position_at layout place).logged.at
-        (in_node_some layout.base.point.extent (position_at layout place).logged.at (is_address lists layout whole.kept.log.log place small).0) (whole.kept.tied.open_apart place small is_open);
+        (in_node_some layout.base.ckpt.geom (position_at layout place).logged.at (is_address lists layout whole.kept.log.log place small).0) (whole.kept.tied.open_apart place small is_open);
     next_apart = λ some. elsewhere_still lists layout state after places now unwritten left whole follows layout.next some (whole.kept.tied.next_apart some);
   }
     where

@@ -24,7 +24,7 @@ use Rattle.f2_call_laws.proofs.Naming.{added_right, emptied_right, unlinked_righ
 
 module _ (lists : Contents) (layout : Layout) (state : State) (places : Places) (unwritten : Unwritten) (whole : IsKeptWhole lists layout state places unwritten) where
   abbrev limits : Limits
-  limits = image_limits layout.base.point.extent
+  limits = image_limits layout.base.ckpt.geom
 
   nothing_right : DirtiesRight limits state state
   nothing_right =

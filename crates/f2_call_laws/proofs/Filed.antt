@@ -103,7 +103,7 @@ touched_there row path size page h = by_tests (nat_lt size row.size) (size % PAG
 
 module _ (lists : Contents) (layout : Layout) (state : State) (places : Places) (unwritten : Unwritten) (whole : IsKeptWhole lists layout state places unwritten) where
   abbrev limits : Limits
-  limits = image_limits layout.base.point.extent
+  limits = image_limits layout.base.ckpt.geom
 
   -- the row at the end of a walk that no seat keeps off isn't in fsync
   thawed_row : (path : List (List ℕ)) (row : Row) → walk state.live path ≡ Ok row → freezing_walked state (walk state.live path) ≡ None → IsFrozen state.flights row.ino → ⊥

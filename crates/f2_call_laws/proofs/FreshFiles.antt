@@ -31,27 +31,27 @@ no_node_before log (suc place) ino offset small none =
     by_test true e = absurd (none place (omega (arith, small)) (eqb-true (footer_ino (block_in log place)) ino e))
     by_test false e = refl
 
-module _ (layout : Layout) (base : Rows) (means : MeansAt layout.base.image layout.base.point base []) (nids : HasNids layout) (ino : ℕ) (no_row : map.get base ino ≡ None)
+module _ (layout : Layout) (base : Rows) (means : MeansAt layout.base.image layout.base.ckpt base []) (nids : HasNids layout) (ino : ℕ) (no_row : map.get base ino ≡ None)
     (own : (other : ℕ × ℕ) → map.get layout.nids other ≡ Some ino → other ≡ (ino, 0)) where
   -- no node of the base has the ino as its nid
-  no_node : (file offset : ℕ) → ¬ (IsNode layout.base.image layout.base.point file offset ino)
+  no_node : (file offset : ℕ) → ¬ (IsNode layout.base.image layout.base.ckpt file offset ino)
   no_node file offset is =
       let same = own (file, offset) (nids.base file offset ino is) in
-      let there : IsSome (map.get base file) = in_base layout.base.image layout.base.point base means.is_base file (node_reached layout.base.image layout.base.point file offset ino is) in
+      let there : IsSome (map.get base file) = in_base layout.base.image layout.base.ckpt base means.is_base file (node_reached layout.base.image layout.base.ckpt file offset ino is) in
       true≢false (sym there ∙ ap (λ (p : ℕ × ℕ). is_some (map.get base p.0)) same ∙ ap is_some no_row)
 
   -- so it has no address
-  no_address : node_address layout.base.image layout.base.point ino ≡ 0
-  no_address = by_number (ℕ_discrete (node_address layout.base.image layout.base.point ino) 0)
+  no_address : node_address layout.base.image layout.base.ckpt ino ≡ 0
+  no_address = by_number (ℕ_discrete (node_address layout.base.image layout.base.ckpt ino) 0)
     where
-      by_number : Dec (node_address layout.base.image layout.base.point ino ≡ 0) → node_address layout.base.image layout.base.point ino ≡ 0
+      by_number : Dec (node_address layout.base.image layout.base.ckpt ino ≡ 0) → node_address layout.base.image layout.base.ckpt ino ≡ 0
       by_number (yes none) = none
       by_number (no some) =
-          let parts = in_table ino (nid_limit layout.base.point.extent) (place layout.base.image layout.base.point ino) some in
-          let given : IsGiven layout.base.image layout.base.point ino = record { within = parts.1; some = λ zero. some (parts.2 ∙ zero) } in
-          absurd (known layout.base.image layout.base.point means.sound ino given (no_node (key layout.base.image layout.base.point ino).0 (key layout.base.image layout.base.point ino).1))
+          let parts = in_table ino (nid_limit layout.base.ckpt.geom) (place layout.base.image layout.base.ckpt ino) some in
+          let given : IsGiven layout.base.image layout.base.ckpt ino = record { within = parts.1; some = λ zero. some (parts.2 ∙ zero) } in
+          absurd (known layout.base.image layout.base.ckpt means.sound ino given (no_node (key layout.base.image layout.base.ckpt ino).0 (key layout.base.image layout.base.ckpt ino).1))
 
-  no_inode : node layout.base.image layout.base.point ino ≡ None
+  no_inode : node layout.base.image layout.base.ckpt ino ≡ None
   no_inode = ap (block_there layout.base.image) no_address
 
   pub nothing_told : (state : State) → ((at : ℕ) → at < length (chained layout) → set.contains state.logged (footer_ino (block_in (chained layout) at)) ≡ true) → set.contains state.logged ino ≡ false
@@ -59,5 +59,5 @@ module _ (layout : Layout) (base : Rows) (means : MeansAt layout.base.image layo
   nothing_told state logged not_logged offset page =
       let log : last_before (chained layout) (length (chained layout)) ino offset ≡ None =
       no_node_before (chained layout) (length (chained layout)) ino offset (omega arith) (λ at small same. true≢false (sym (logged at small) ∙ ap (set.contains state.logged) same ∙ not_logged)) in
-      ap (λ (o : Option (List ℕ)). word_of (or_below o (base_direct layout.base.image layout.base.point (node layout.base.image layout.base.point ino) page)) (direct_slot page)) log
-      ∙ ap (λ (o : Option (List ℕ)). word_of (base_direct layout.base.image layout.base.point o page) (direct_slot page)) no_inode
+      ap (λ (o : Option (List ℕ)). word_of (or_below o (base_direct layout.base.image layout.base.ckpt (node layout.base.image layout.base.ckpt ino) page)) (direct_slot page)) log
+      ∙ ap (λ (o : Option (List ℕ)). word_of (base_direct layout.base.image layout.base.ckpt o page) (direct_slot page)) no_inode

@@ -11,12 +11,12 @@ use Rattle.f2_stored.specs.Layout.{Layout}
 use Rattle.f2_call_laws.specs.Calls.{IsNewNode, KeepsNames, ArePlacesAfter}
 use Rattle.f2_call_laws.proofs.Names.{names_stay}
 
-module _ (layout : Layout) (state after : State) (places now : Places) (unwritten left : Unwritten) (laid : HasPlaces layout.base.point.extent state.live places)
+module _ (layout : Layout) (state after : State) (places now : Places) (unwritten left : Unwritten) (laid : HasPlaces layout.base.ckpt.geom state.live places)
     (follows : ArePlacesAfter layout state after places now unwritten left) where
-  node_placed : (ino offset : ℕ) (node : NodeAt) → map.get now.nodes (ino, offset) ≡ Some node → IsNodePlaced layout.base.point.extent after.live now ino offset node
+  node_placed : (ino offset : ℕ) (node : NodeAt) → map.get now.nodes (ino, offset) ≡ Some node → IsNodePlaced layout.base.ckpt.geom after.live now ino offset node
   node_placed ino offset node there = by_case (follows.nodes ino offset node there)
     where
-      by_case : (map.get places.nodes (ino, offset) ≡ Some node) ⊎ IsNewNode layout places now ino offset node → IsNodePlaced layout.base.point.extent after.live now ino offset node
+      by_case : (map.get places.nodes (ino, offset) ≡ Some node) ⊎ IsNewNode layout places now ino offset node → IsNodePlaced layout.base.ckpt.geom after.live now ino offset node
       by_case (inl was) =
           let old = laid.nodes ino offset node was in
           record { row = follows.of_rows ino offset node there; least = old.least; most = old.most; inode = old.inode; above = follows.above ino offset node there }
@@ -53,7 +53,7 @@ module _ (layout : Layout) (state after : State) (places now : Places) (unwritte
       by_case (inl has) = has
       by_case (inr keeps) = names_stay state.live after.live places now ino keeps (laid.names ino keeps.before.0 keeps.before.1 keeps.before.2)
 
-  pub laid_after : HasPlaces layout.base.point.extent after.live now
+  pub laid_after : HasPlaces layout.base.ckpt.geom after.live now
   laid_after = record {
     nodes = node_placed;
     nids_apart = nids_apart;

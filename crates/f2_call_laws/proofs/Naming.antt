@@ -31,7 +31,7 @@ use Rattle.f2_call_laws.proofs.Pairs.{other_without_ino, none_of_ino}
 
 module _ (lists : Contents) (layout : Layout) (state : State) (places : Places) (unwritten : Unwritten) (whole : IsKeptWhole lists layout state places unwritten) where
   abbrev limits : Limits
-  limits = image_limits layout.base.point.extent
+  limits = image_limits layout.base.ckpt.geom
 
   -- a state with another tree, in which nothing else is dirty
   abbrev with_rows : Rows → State

@@ -35,7 +35,7 @@ module _ (lists : Contents) (layout : Layout) (state : State) (places : Places) 
     (stays : (page : ℕ) → IsSome (map.get old.pages page) → (Has page removed → ⊥) → IsSome (map.get new.pages page))
     (reached : (page : ℕ) → Has page touched → IsSome (map.get new.pages page)) where
   abbrev limits : Limits
-  limits = image_limits layout.base.point.extent
+  limits = image_limits layout.base.ckpt.geom
 
   abbrev live : Rows
   live = map.insert state.live old.ino new

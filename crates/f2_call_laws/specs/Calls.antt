@@ -34,7 +34,7 @@ pub record IsNewNode (layout : Layout) (places now : Places) (ino offset : ℕ) 
   pub nowhere : node.at ≡ 0
   pub inode : offset ≡ 0 → node.nid ≡ ino
   pub least : 4 ≤ node.nid
-  pub most : node.nid < nid_limit layout.base.point.extent
+  pub most : node.nid < nid_limit layout.base.ckpt.geom
   pub own : IsOwnNid layout ino offset node.nid
   pub apart : (other : ℕ × ℕ) (more : NodeAt) → map.get now.nodes other ≡ Some more → more.nid ≡ node.nid → other ≡ (ino, offset)
 
@@ -69,8 +69,8 @@ pub record ArePlacesAfter (layout : Layout) (state after : State) (places now : 
   pub names : (ino : ℕ) (row : Row) → map.get after.live ino ≡ Some row → row.kind ≡ Directory → HasNames after.live now ino ⊎ KeepsNames state.live after.live places now ino
   pub stay : (ino : ℕ) (row : Row) → map.get state.live ino ≡ Some row → map.get after.live ino ≡ Some row → row.kind ≡ Regular → (offset : ℕ) → map.get now.nodes (ino, offset) ≡ map.get places.nodes (ino, offset)
   -- an image grants as many
-  pub few_nodes : map.len now.nodes ≤ node_third layout.base.point.extent
-  pub few_pages : map.len now.pages ≤ data_third layout.base.point.extent
+  pub few_nodes : map.len now.nodes ≤ node_third layout.base.ckpt.geom
+  pub few_pages : map.len now.pages ≤ data_third layout.base.ckpt.geom
   -- what is dirty in a file is to be written, and so are nodes that are dirty; what else isn't stands as it stood and would be written as
   -- before; and what is to be written is there
   pub dirty : (ino page : ℕ) (row : Row) → map.get after.live ino ≡ Some row → row.kind ≡ Regular → set.contains left.pages (ino, page) ≡ set.contains after.dirty_pages (ino, page)
@@ -85,6 +85,6 @@ abbrev pub CallsKeep : Type 0
 CallsKeep =
     (lists : Contents) (layout : Layout) (state : State) (places now : Places) (unwritten left : Unwritten) (request : Request) (ino : ℕ) →
     IsKeptWhole lists layout state places unwritten →
-    TakesPlace (image_limits layout.base.point.extent) state request ino →
+    TakesPlace (image_limits layout.base.ckpt.geom) state request ino →
     ArePlacesAfter layout state (called state request ino) places now unwritten left →
     IsKeptWhole lists layout (called state request ino) now left

@@ -45,27 +45,27 @@ chain_from_follows image version (suc most) at =
     one_more at (block_at image at) (chain_from image version most (footer_next (block_at image at))) (at == 0) (footer_version (block_at image at) == version) refl
     (chain_from_follows image version most (footer_next (block_at image at)))
 
-module _ (image : Image) (point : Checkpoint) (checkpoint : IsCheckpoint image point) (sound : IsSound image point) where
-  chain_follows : (next : ℕ) × Follow point.head.log_start (chain image point) next
+module _ (image : Image) (ckpt : Checkpoint) (checkpoint : IsCheckpoint image ckpt) (sound : IsSound image ckpt) where
+  chain_follows : (next : ℕ) × Follow ckpt.head.log_start (chain image ckpt) next
   unfolding chain
-  chain_follows = chain_from_follows image (recovery_version point) (node_third point.extent + 1) point.head.log_start
+  chain_follows = chain_from_follows image (recovery_version ckpt) (node_third ckpt.geom + 1) ckpt.head.log_start
 
-  named_in_zone : (place : ℕ) → place < length (chain image point) → footer_next (slice_index_or (chain image point) place no_block).block ≢ 0
-      → IsTrue (is_in_node point.extent (footer_next (slice_index_or (chain image point) place no_block).block))
-  named_in_zone place less there = by_test (is_in_node point.extent named) refl
+  named_in_zone : (place : ℕ) → place < length (chain image ckpt) → footer_next (slice_index_or (chain image ckpt) place no_block).block ≢ 0
+      → IsTrue (is_in_node ckpt.geom (footer_next (slice_index_or (chain image ckpt) place no_block).block))
+  named_in_zone place less there = by_test (is_in_node ckpt.geom named) refl
     where
       named : ℕ
-      named = footer_next (slice_index_or (chain image point) place no_block).block
+      named = footer_next (slice_index_or (chain image ckpt) place no_block).block
 
       no_end : OutOfZone ≢ VersionEnd
       no_end e = cc
 
-      by_test : (b : Bool) → is_in_node point.extent named ≡ b → IsTrue b
+      by_test : (b : Bool) → is_in_node ckpt.geom named ≡ b → IsTrue b
       by_test true e = refl
       by_test false e = absurd (sound OutOfZone named no_end (faults.next place less refl there e))
 
-  pub chain_in_zone : AllByRecursion (λ one. IsTrue (is_in_node point.extent one.at)) (chain image point)
-  chain_in_zone = each_follows (λ at. IsTrue (is_in_node point.extent at)) _ chain_follows.0 (chain image point) chain_follows.1 (λ there. start_in_zone image point checkpoint) named_in_zone
+  pub chain_in_zone : AllByRecursion (λ one. IsTrue (is_in_node ckpt.geom one.at)) (chain image ckpt)
+  chain_in_zone = each_follows (λ at. IsTrue (is_in_node ckpt.geom at)) _ chain_follows.0 (chain image ckpt) chain_follows.1 (λ there. start_in_zone image ckpt checkpoint) named_in_zone
 
-  pub end_in_zone : (next : ℕ) → Follow point.head.log_start (chain image point) next → next ≢ 0 → IsTrue (is_in_node point.extent next)
-  end_in_zone next follow = last_follows (λ at. IsTrue (is_in_node point.extent at)) _ next (chain image point) follow (λ there. start_in_zone image point checkpoint) named_in_zone
+  pub end_in_zone : (next : ℕ) → Follow ckpt.head.log_start (chain image ckpt) next → next ≢ 0 → IsTrue (is_in_node ckpt.geom next)
+  end_in_zone next follow = last_follows (λ at. IsTrue (is_in_node ckpt.geom at)) _ next (chain image ckpt) follow (λ there. start_in_zone image ckpt checkpoint) named_in_zone

@@ -3,7 +3,7 @@ use Rattle.std.proofs.Common.{◌≡◌, ◌≢◌, inl, ℕ, zero, suc, ◌+◌
 use Rattle.std.specs.Prelude.{slice_index_or}
 use Rattle.std.specs.List.{AllZip, Contains}
 use Rattle.std.proofs.lemmas.List.Elements.{All-nil, All-weaker}
-use Rattle.f2_format.specs.Geometry.{Extent, is_in_node}
+use Rattle.f2_format.specs.Geometry.{ImageGeometry, is_in_node}
 use Rattle.f2_format.specs.Footer.{footer_version}
 use Rattle.f2_format.specs.Pack.{head_of}
 use Rattle.f2_disk.specs.Contents.{Contents, last_of, flushed}
@@ -34,16 +34,16 @@ all_packs : (lists : Contents) (layout : Layout) (state : State) → IsStored li
 all_packs lists layout state (running packs log) = packs
 all_packs lists layout state (mounting packs image) = packs
 
-base_head : (lists : Contents) (layout : Layout) (state : State) → IsStored lists layout state → HasOne lists layout.base.image (head_address layout.base.point.side)
-base_head lists layout state (running packs log) = log.base.tells (head_address layout.base.point.side) bases.head
-base_head lists layout state (mounting packs image) = image.base.tells (head_address layout.base.point.side) bases.head
+base_head : (lists : Contents) (layout : Layout) (state : State) → IsStored lists layout state → HasOne lists layout.base.image (head_address layout.base.ckpt.side)
+base_head lists layout state (running packs log) = log.base.tells (head_address layout.base.ckpt.side) bases.head
+base_head lists layout state (mounting packs image) = image.base.tells (head_address layout.base.ckpt.side) bases.head
 
 -- the head of the base is of its version, and so is its tail
-base_version : (lists : Contents) (layout : Layout) (state : State) → IsStored lists layout state → (head_of (block_at layout.base.image (head_address layout.base.point.side))).version ≡ layout.base.point.head.version
+base_version : (lists : Contents) (layout : Layout) (state : State) → IsStored lists layout state → (head_of (block_at layout.base.image (head_address layout.base.ckpt.side))).version ≡ layout.base.ckpt.head.version
 base_version lists layout state (running packs log) = ap (λ fields. fields.version) (sym log.base.means.checkpoint.head)
 base_version lists layout state (mounting packs image) = ap (λ fields. fields.version) (sym image.base.means.checkpoint.head)
 
-base_tail : (lists : Contents) (layout : Layout) (state : State) → IsStored lists layout state → tail_of layout.base ≡ block_at layout.base.image (head_address layout.base.point.side)
+base_tail : (lists : Contents) (layout : Layout) (state : State) → IsStored lists layout state → tail_of layout.base ≡ block_at layout.base.image (head_address layout.base.ckpt.side)
 base_tail lists layout state (running packs log) = log.base.means.checkpoint.newest.valid.same
 base_tail lists layout state (mounting packs image) = image.base.means.checkpoint.newest.valid.same
 
@@ -60,7 +60,7 @@ earlier B version newest less = less
 
 module _ (lists : Contents) (layout : Layout) (state after : State) (pending : Reference) (tree : Rows) (nids : Nids) (owners : Owners)
     (stored : IsStored lists layout state) (there : layout.pending ≡ Some pending) (is : state.pending ≡ Some tree)
-    (last : last_of (contents_at lists (tail_address pending.point.side)) ≡ tail_of pending) (done : IsDone state after tree) (early : pending.point.head.version < 2 ^ 32) where
+    (last : last_of (contents_at lists (tail_address pending.ckpt.side)) ≡ tail_of pending) (done : IsDone state after tree) (early : pending.ckpt.head.version < 2 ^ 32) where
   packs : KeepsPacks lists layout state
   packs = all_packs lists layout state stored
 
@@ -69,51 +69,51 @@ module _ (lists : Contents) (layout : Layout) (state after : State) (pending : R
 
   kept : HoldsPending (flushed lists) layout.base pending tree
   kept = pending_kept lists (flushed lists) (flushed_size lists packs.whole) layout.base pending tree (λ k tells. flushed_fewer lists packs.whole k) (λ k depends. flushed_fewer lists packs.whole k)
-      (flushed_fewer lists packs.whole pending.point.head.log_start) holds
+      (flushed_fewer lists packs.whole pending.ckpt.head.log_start) holds
 
-  back : other_side pending.point.side ≡ layout.base.point.side
-  back = ap other_side holds.side ∙ other_twice layout.base.point.side
+  back : other_side pending.ckpt.side ≡ layout.base.ckpt.side
+  back = ap other_side holds.side ∙ other_twice layout.base.ckpt.side
 
   -- the base's pack is the other one now
-  own_head : contents_at (flushed lists) (head_address (other_side pending.point.side)) ≡ block_at layout.base.image (head_address layout.base.point.side) ∷ []
-  own_head = ap (λ side. contents_at (flushed lists) (head_address side)) back ∙ (flushed_fewer lists packs.whole (head_address layout.base.point.side)).one _ (base_head lists layout state stored)
+  own_head : contents_at (flushed lists) (head_address (other_side pending.ckpt.side)) ≡ block_at layout.base.image (head_address layout.base.ckpt.side) ∷ []
+  own_head = ap (λ side. contents_at (flushed lists) (head_address side)) back ∙ (flushed_fewer lists packs.whole (head_address layout.base.ckpt.side)).one _ (base_head lists layout state stored)
 
-  own_tail : contents_at (flushed lists) (tail_address (other_side pending.point.side)) ≡ tail_of layout.base ∷ []
-  own_tail = ap (λ side. contents_at (flushed lists) (tail_address side)) back ∙ (flushed_fewer lists packs.whole (tail_address layout.base.point.side)).one _ packs.packs.own
+  own_tail : contents_at (flushed lists) (tail_address (other_side pending.ckpt.side)) ≡ tail_of layout.base ∷ []
+  own_tail = ap (λ side. contents_at (flushed lists) (tail_address side)) back ∙ (flushed_fewer lists packs.whole (tail_address layout.base.ckpt.side)).one _ packs.packs.own
 
-  tail_version : (head_of (tail_of layout.base)).version ≡ layout.base.point.head.version
+  tail_version : (head_of (tail_of layout.base)).version ≡ layout.base.ckpt.head.version
   tail_version = ap (λ (b : List ℕ). (head_of b).version) (base_tail lists layout state stored) ∙ base_version lists layout state stored
 
   counted : HasPacks (flushed lists) pending None
   counted = record {
-    own = flushed_at lists (tail_address pending.point.side) ∙ ap (λ (tail : List ℕ). tail ∷ []) last;
+    own = flushed_at lists (tail_address pending.ckpt.side) ∙ ap (λ (tail : List ℕ). tail ∷ []) last;
     not_later = λ k d small. inl (older k d small);
     behind = λ head tail head_there tail_there pack. inl (behind head head_there);
   }
     where
-      older : All (λ tail. (head_of tail).version ≤ pending.point.head.version) (contents_at (flushed lists) (tail_address (other_side pending.point.side)))
-      older = subst (All (λ tail. (head_of tail).version ≤ pending.point.head.version)) (sym own_tail) (λ k d small. one k d small)
+      older : All (λ tail. (head_of tail).version ≤ pending.ckpt.head.version) (contents_at (flushed lists) (tail_address (other_side pending.ckpt.side)))
+      older = subst (All (λ tail. (head_of tail).version ≤ pending.ckpt.head.version)) (sym own_tail) (λ k d small. one k d small)
         where
-          one : All (λ tail. (head_of tail).version ≤ pending.point.head.version) (tail_of layout.base ∷ [])
+          one : All (λ tail. (head_of tail).version ≤ pending.ckpt.head.version) (tail_of layout.base ∷ [])
           one k d small = let only : k ≡ 0 = omega (arith, small) in
-              subst (λ i. (head_of (slice_index_or (tail_of layout.base ∷ []) i d)).version ≤ pending.point.head.version) (sym only) (omega (arith, tail_version, holds.version))
+              subst (λ i. (head_of (slice_index_or (tail_of layout.base ∷ []) i d)).version ≤ pending.ckpt.head.version) (sym only) (omega (arith, tail_version, holds.version))
 
-      behind : (head : List ℕ) → Contains (contents_at (flushed lists) (head_address (other_side pending.point.side))) head → IsBehind pending.point.side (head_of head).version pending.point.head.version
+      behind : (head : List ℕ) → Contains (contents_at (flushed lists) (head_address (other_side pending.ckpt.side))) head → IsBehind pending.ckpt.side (head_of head).version pending.ckpt.head.version
       behind head head_there =
-          let same : head ≡ block_at layout.base.image (head_address layout.base.point.side) = only_one _ head (subst (λ (l : List (List ℕ)). Contains l head) own_head head_there) in
-          earlier pending.point.side (head_of head).version pending.point.head.version
+          let same : head ≡ block_at layout.base.image (head_address layout.base.ckpt.side) = only_one _ head (subst (λ (l : List (List ℕ)). Contains l head) own_head head_there) in
+          earlier pending.ckpt.side (head_of head).version pending.ckpt.head.version
           (omega (arith, ap (λ (b : List ℕ). (head_of b).version) same, base_version lists layout state stored, holds.version))
 
-  no_later : (at : ℕ) → IsTrue (is_in_node pending.point.extent at) → All (λ content. footer_version content % 2 ^ 32 ≤ layout.base.point.head.version) (contents_at (flushed lists) at)
+  no_later : (at : ℕ) → IsTrue (is_in_node pending.ckpt.geom at) → All (λ content. footer_version content % 2 ^ 32 ≤ layout.base.ckpt.head.version) (contents_at (flushed lists) at)
   no_later at inside =
-      fewer_all lists (flushed lists) at (λ content. footer_version content % 2 ^ 32 ≤ layout.base.point.head.version) (flushed_fewer lists packs.whole at)
-      (packs.no_later at (subst (λ (e : Extent). IsTrue (is_in_node e at)) holds.extent inside))
+      fewer_all lists (flushed lists) at (λ content. footer_version content % 2 ^ 32 ≤ layout.base.ckpt.head.version) (flushed_fewer lists packs.whole at)
+      (packs.no_later at (subst (λ (e : ImageGeometry). IsTrue (is_in_node e at)) holds.geom inside))
 
   done_packs : KeepsPacks (flushed lists) (based_on pending nids owners) after
   done_packs = record {
     whole = flushed_whole lists packs.whole;
     packs = counted;
-    no_later = λ at inside. All-weaker (λ content. footer_version content % 2 ^ 32 ≤ layout.base.point.head.version) (λ content. footer_version content % 2 ^ 32 ≤ pending.point.head.version)
+    no_later = λ at inside. All-weaker (λ content. footer_version content % 2 ^ 32 ≤ layout.base.ckpt.head.version) (λ content. footer_version content % 2 ^ 32 ≤ pending.ckpt.head.version)
         (λ content low. omega (arith, low, holds.version)) (contents_at (flushed lists) at) (no_later at inside);
     pending = none_pending (flushed lists) pending after.pending done.pending;
     format = format ∙ sym done.format;
@@ -122,16 +122,16 @@ module _ (lists : Contents) (layout : Layout) (state after : State) (pending : R
     early = early;
   }
     where
-      format : format_of pending.point ≡ state.next_format
+      format : format_of pending.ckpt ≡ state.next_format
       format = subst (λ (p : Option Reference). HasFormat p state.next_format) there packs.next_format
 
   -- no block carries the new version yet
-  fresh : (at : ℕ) → IsTrue (is_in_node pending.point.extent at) → HoldsNone (flushed lists) (recovery_version pending.point) at
+  fresh : (at : ℕ) → IsTrue (is_in_node pending.ckpt.geom at) → HoldsNone (flushed lists) (recovery_version pending.ckpt) at
   fresh at inside =
-      All-weaker (λ content. footer_version content % 2 ^ 32 ≤ layout.base.point.head.version) (λ content. footer_version content ≢ recovery_version pending.point)
-      (λ content low same. omega (arith, low, ap (λ v. v % 2 ^ 32) same, log_version_low pending.point.head early, holds.version)) (contents_at (flushed lists) at) (no_later at inside)
+      All-weaker (λ content. footer_version content % 2 ^ 32 ≤ layout.base.ckpt.head.version) (λ content. footer_version content ≢ recovery_version pending.ckpt)
+      (λ content low same. omega (arith, low, ap (λ v. v % 2 ^ 32) same, log_version_low pending.ckpt.head early, holds.version)) (contents_at (flushed lists) at) (no_later at inside)
 
-  done_log : IsLogAddress (based_on pending nids owners) pending.point.head.log_start → HasNids (based_on pending nids owners) → HasOwners (based_on pending nids owners) → IsProperTree (image_limits pending.point.extent) tree
+  done_log : IsLogAddress (based_on pending nids owners) pending.ckpt.head.log_start → HasNids (based_on pending nids owners) → HasOwners (based_on pending nids owners) → IsProperTree (image_limits pending.ckpt.geom) tree
       → KeepsLog (flushed lists) (based_on pending nids owners) after
   done_log start numbers owned proper = record {
     base = subst (λ (rows : Rows). HoldsImage (flushed lists) pending rows []) (sym done.base) kept.holds;
@@ -153,9 +153,9 @@ module _ (lists : Contents) (layout : Layout) (state after : State) (pending : R
     marks = subst (λ (marks : List Mark). AllZip (HoldsMark (flushed lists) (based_on pending nids owners) after.base) [] marks) (sym done.marks) tt;
     acknowledged = omega (arith, done.acknowledged);
     fitting = record {
-      base = subst (All (FitsBase (image_limits pending.point.extent) after.base)) (sym done.marks) (All-nil (FitsBase (image_limits pending.point.extent) after.base));
+      base = subst (All (FitsBase (image_limits pending.ckpt.geom) after.base)) (sym done.marks) (All-nil (FitsBase (image_limits pending.ckpt.geom) after.base));
       names = λ one other found. absurd (no_member one (subst (λ (marks : List Mark). Contains marks one) done.marks found));
-      trees = λ place least most. subst (IsProperTree (image_limits pending.point.extent)) (sym (same_tree place)) proper;
+      trees = λ place least most. subst (IsProperTree (image_limits pending.ckpt.geom)) (sym (same_tree place)) proper;
     };
   }
     where

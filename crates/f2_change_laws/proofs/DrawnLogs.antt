@@ -32,7 +32,7 @@ use Rattle.f2_change_laws.proofs.KeptMarks.{mark_kept}
 
 module _ (lists : Contents) (layout : Layout) (state : State) (block : List ℕ) (owners : Owners) (keeps : KeepsLog lists layout state) (may : MayBeDrawn layout block)
     (counting : is_marked block ≡ true → MayCount layout (footer_ino block))
-    (wider : (at : ℕ) (owner : ℕ × ℕ) → map.get layout.owners at ≡ Some owner → map.get owners at ≡ Some owner) (few : map.len owners ≤ 2 * data_third layout.base.point.extent) where
+    (wider : (at : ℕ) (owner : ℕ × ℕ) → map.get layout.owners at ≡ Some owner → map.get owners at ≡ Some owner) (few : map.len owners ≤ 2 * data_third layout.base.ckpt.geom) where
   abbrev drawn : Layout
   drawn = with_drawn layout block owners
 
@@ -57,8 +57,8 @@ module _ (lists : Contents) (layout : Layout) (state : State) (block : List ℕ)
   drawn_log : HoldsLog lists drawn
   drawn_log = record {
     linked = record {
-      follow = subst (λ (c : List Logged). Follow layout.base.point.head.log_start c (footer_next block)) (sym chain_more)
-          (follow_push layout.base.point.head.log_start layout.next (chained layout) block keeps.log.linked.follow may.there);
+      follow = subst (λ (c : List Logged). Follow layout.base.ckpt.head.log_start c (footer_next block)) (sym chain_more)
+          (follow_push layout.base.ckpt.head.log_start layout.next (chained layout) block keeps.log.linked.follow may.there);
       held = subst (AllByRecursion (HoldsOrOther lists (log_version layout))) (sym chain_more)
           (each_push (HoldsOrOther lists (log_version layout)) (chained layout) one keeps.log.linked.held (λ k d small. inr (none_next k d small)));
       free = λ there. keeps.log.fresh (footer_next block) (may.next there).0 (λ found. may.further (Contains-append_left (log_addresses layout) (layout.next ∷ []) (footer_next block) found));
@@ -146,11 +146,11 @@ module _ (lists : Contents) (layout : Layout) (state : State) (block : List ℕ)
       one_mark : (at : ℕ) (mark : Mark) → at < length (chained layout) → HoldsMark lists layout state.base at mark → HoldsMark lists drawn state.base at mark
       one_mark at mark small =
           mark_kept lists lists layout drawn state.base at mark refl (ap (λ c. block_in c at) chain_more ∙ block_before (chained layout) one at small)
-          (λ page. ap (λ c. marked_address layout.base.image layout.base.point c at page) chain_more ∙ address_same (chained layout) one layout.base.image layout.base.point page at small)
+          (λ page. ap (λ c. marked_address layout.base.image layout.base.ckpt c at page) chain_more ∙ address_same (chained layout) one layout.base.image layout.base.ckpt page at small)
           wider (λ k owner is inside. fewer_same lists lists k refl)
 
   pub drawn_keeps : (marks : List Mark) → AllZip (HoldsMark lists (with_drawn layout block owners) state.base) (marked_places (chained (with_drawn layout block owners))) marks
-      → AreFitting (image_limits layout.base.point.extent) (record state { marks = marks }) → KeepsLog lists (with_drawn layout block owners) (record state { marks = marks })
+      → AreFitting (image_limits layout.base.ckpt.geom) (record state { marks = marks }) → KeepsLog lists (with_drawn layout block owners) (record state { marks = marks })
   drawn_keeps marks hold fitting = record {
     base = keeps.base;
     no_log = keeps.no_log;

@@ -25,10 +25,10 @@ module _ (lists new : Contents) (size : length new ≡ length lists) (whole : Is
   pub fewer_packs : (log : List Position) (settled : ℕ) → KeepsPacks lists layout state → KeepsPacks new (record layout { log = log; settled = settled }) state
   fewer_packs log settled keeps =
       packs_kept lists new size layout state log settled layout.next layout.nids layout.owners state.marks state.acknowledged keeps whole
-      (heads_kept lists new size layout.base layout.pending (fewer (tail_address layout.base.point.side)) (fewer (tail_address (other_side layout.base.point.side))) (fewer (head_address (other_side layout.base.point.side))).from keeps.packs)
+      (heads_kept lists new size layout.base layout.pending (fewer (tail_address layout.base.ckpt.side)) (fewer (tail_address (other_side layout.base.ckpt.side))) (fewer (head_address (other_side layout.base.ckpt.side))).from keeps.packs)
       (later_kept lists new size layout (λ at inside. fewer at) keeps.no_later)
       (some_kept lists new size layout.base layout.pending state.pending
-      (λ one rows is. pending_kept lists new size layout.base one rows (λ at tells. fewer at) (λ at depends. fewer at) (fewer one.point.head.log_start)) keeps.pending)
+      (λ one rows is. pending_kept lists new size layout.base one rows (λ at tells. fewer at) (λ at depends. fewer at) (fewer one.ckpt.head.log_start)) keeps.pending)
 
   pub fewer_mount : (log : List Position) → KeepsImage lists layout state → KeepsImage new (record layout { log = log }) state
   fewer_mount log keeps =

@@ -50,25 +50,25 @@ module _ (lists new : Contents) (layout : Layout) (state : State) (at : ℕ) (co
   off_pending one there k is = off k (λ e. free.pending (subst (λ (p : Option Reference). IsReadOfSome p at) (sym there) (subst (IsReadOf one) e is)))
 
   -- the new head of the other pack is of a later version than its tails
-  behind : HasPacks lists layout.base layout.pending → (head tail : List ℕ) → Contains (contents_at new (head_address (other_side layout.base.point.side))) head
-      → Contains (contents_at new (tail_address (other_side layout.base.point.side))) tail → IsPack layout.base.point.extent head tail
-      → IsBehind layout.base.point.side (head_of head).version layout.base.point.head.version ⊎ IsPendingTail layout.pending tail
-  behind packs head tail head_there tail_there pack = elim (cases_eq (head_address (other_side layout.base.point.side)) at) [
+  behind : HasPacks lists layout.base layout.pending → (head tail : List ℕ) → Contains (contents_at new (head_address (other_side layout.base.ckpt.side))) head
+      → Contains (contents_at new (tail_address (other_side layout.base.ckpt.side))) tail → IsPack layout.base.ckpt.geom head tail
+      → IsBehind layout.base.ckpt.side (head_of head).version layout.base.ckpt.head.version ⊎ IsPendingTail layout.pending tail
+  behind packs head tail head_there tail_there pack = elim (cases_eq (head_address (other_side layout.base.ckpt.side)) at) [
     | inl here ↦ elim (more.from head (subst (λ k. Contains (contents_at new k) head) here head_there)) [
       | inl old ↦ packs.behind head tail (subst (λ k. Contains (contents_at lists k) head) (sym here) old) tail_was pack
       | inr is ↦ later here is
     ]
-    | inr apart ↦ packs.behind head tail ((off (head_address (other_side layout.base.point.side)) apart).from head head_there) tail_was pack
+    | inr apart ↦ packs.behind head tail ((off (head_address (other_side layout.base.ckpt.side)) apart).from head head_there) tail_was pack
   ]
     where
-      tail_was : Contains (contents_at lists (tail_address (other_side layout.base.point.side))) tail
-      tail_was = (off (tail_address (other_side layout.base.point.side)) (λ e. free.other_tail (sym e))).from tail tail_there
+      tail_was : Contains (contents_at lists (tail_address (other_side layout.base.ckpt.side))) tail
+      tail_was = (off (tail_address (other_side layout.base.ckpt.side)) (λ e. free.other_tail (sym e))).from tail tail_there
 
-      later : head_address (other_side layout.base.point.side) ≡ at → head ≡ content → IsBehind layout.base.point.side (head_of head).version layout.base.point.head.version ⊎ IsPendingTail layout.pending tail
+      later : head_address (other_side layout.base.ckpt.side) ≡ at → head ≡ content → IsBehind layout.base.ckpt.side (head_of head).version layout.base.ckpt.head.version ⊎ IsPendingTail layout.pending tail
       later here is =
-          elim (All-contains (λ tail. ((head_of tail).version ≤ layout.base.point.head.version) ⊎ IsPendingTail layout.pending tail) _ tail packs.not_later tail_was) [
+          elim (All-contains (λ tail. ((head_of tail).version ≤ layout.base.ckpt.head.version) ⊎ IsPendingTail layout.pending tail) _ tail packs.not_later tail_was) [
             | inl early ↦
-                let late : layout.base.point.head.version < (head_of content).version = may.head (sym here) in
+                let late : layout.base.ckpt.head.version < (head_of content).version = may.head (sym here) in
                 absurd (omega (arith, early, late, ap (λ (b : List ℕ). (head_of b).version) pack.same, ap (λ (b : List ℕ). (head_of b).version) is))
             | inr one ↦ inr one
           ]
@@ -77,22 +77,22 @@ module _ (lists new : Contents) (layout : Layout) (state : State) (at : ℕ) (co
   free_packs keeps =
       packs_kept lists new more.size layout state layout.log layout.settled layout.next layout.nids layout.owners state.marks state.acknowledged keeps (more.whole keeps.whole may.block)
       record {
-        own = (off (tail_address layout.base.point.side) (λ e. free.own_tail (sym e))).one _ keeps.packs.own;
-        not_later = fewer_all lists new (tail_address (other_side layout.base.point.side)) (λ tail. ((head_of tail).version ≤ layout.base.point.head.version) ⊎ IsPendingTail layout.pending tail)
-            (off (tail_address (other_side layout.base.point.side)) (λ e. free.other_tail (sym e))) keeps.packs.not_later;
+        own = (off (tail_address layout.base.ckpt.side) (λ e. free.own_tail (sym e))).one _ keeps.packs.own;
+        not_later = fewer_all lists new (tail_address (other_side layout.base.ckpt.side)) (λ tail. ((head_of tail).version ≤ layout.base.ckpt.head.version) ⊎ IsPendingTail layout.pending tail)
+            (off (tail_address (other_side layout.base.ckpt.side)) (λ e. free.other_tail (sym e))) keeps.packs.not_later;
         behind = behind keeps.packs;
       }
-      (λ k inside. more_all lists new at content more (λ content. footer_version content % 2 ^ 32 ≤ layout.base.point.head.version) k
-      (λ here. unversioned (may.node (subst (λ k. IsTrue (is_in_node layout.base.point.extent k)) here inside))) (keeps.no_later k inside))
+      (λ k inside. more_all lists new at content more (λ content. footer_version content % 2 ^ 32 ≤ layout.base.ckpt.head.version) k
+      (λ here. unversioned (may.node (subst (λ k. IsTrue (is_in_node layout.base.ckpt.geom k)) here inside))) (keeps.no_later k inside))
       (some_kept lists new more.size layout.base layout.pending state.pending pending keeps.pending)
     where
-      unversioned : footer_version content ≡ 0 → footer_version content % 2 ^ 32 ≤ layout.base.point.head.version
+      unversioned : footer_version content ≡ 0 → footer_version content % 2 ^ 32 ≤ layout.base.ckpt.head.version
       unversioned none = omega (arith, none)
 
       pending : (one : Reference) (rows : Rows) → layout.pending ≡ Some one → HoldsPending lists layout.base one rows → HoldsPending new layout.base one rows
       pending one rows there holds =
           pending_kept lists new more.size layout.base one rows (λ k is. off_pending one there k (tells is)) (λ k is. off_pending one there k (depends is))
-          (off_pending one there one.point.head.log_start (ends one.point.head.log_start (subst (λ (c : List Logged). Follow one.point.head.log_start c one.point.head.log_start) (sym holds.no_log) refl) refl)) holds
+          (off_pending one there one.ckpt.head.log_start (ends one.ckpt.head.log_start (subst (λ (c : List Logged). Follow one.ckpt.head.log_start c one.ckpt.head.log_start) (sym holds.no_log) refl) refl)) holds
 
   pub free_log : KeepsPacks lists layout state → KeepsLog lists layout state → KeepsLog new layout state
   free_log packs keeps =
@@ -105,7 +105,7 @@ module _ (lists new : Contents) (layout : Layout) (state : State) (at : ℕ) (co
         held = each_within (λ position. HoldsAs lists (log_version layout) position.logged position.fate) (λ position. HoldsAs new (log_version layout) position.logged position.fate) layout.log
             (λ position found. as_kept lists new (log_version layout) position.logged position.fate (more.other position.logged.at (apart_log position.logged (contains_map (λ (p : Position). p.logged) layout.log position found)))) keeps.log.held;
         fresh = λ k inside no_position. more_all lists new at content more (λ c. footer_version c ≢ log_version layout) k
-            (λ here. versioned (may.node (subst (λ k. IsTrue (is_in_node layout.base.point.extent k)) here inside))) (keeps.log.fresh k inside no_position);
+            (λ here. versioned (may.node (subst (λ k. IsTrue (is_in_node layout.base.ckpt.geom k)) here inside))) (keeps.log.fresh k inside no_position);
         within = keeps.log.within;
         settled = each_within (HoldsAlone lists (log_version layout)) (HoldsAlone new (log_version layout)) (take layout.settled (chained layout))
             (λ one found alone. ((off_log one (contains_take layout.settled (chained layout) one found)).one one.block alone.0, alone.1)) keeps.log.settled;
@@ -121,14 +121,14 @@ module _ (lists new : Contents) (layout : Layout) (state : State) (at : ℕ) (co
 
       versioned : footer_version content ≡ 0 → footer_version content ≢ log_version layout
       versioned none same =
-          omega (arith, none, same, log_version_low layout.base.point.head packs.early, version_some layout.base.image layout.base.point keeps.base.means.checkpoint)
+          omega (arith, none, same, log_version_low layout.base.ckpt.head packs.early, version_some layout.base.image layout.base.ckpt keeps.base.means.checkpoint)
 
   free_write : IsStored lists layout state → IsStored new layout state
   free_write (running packs log) = running (free_packs packs) (free_log packs log)
   free_write (mounting packs image) =
       mounting (free_packs packs)
       (mount_kept lists new more.size layout state layout.pending layout.log state.pending (λ k is. off_base k (tells is)) (λ k is. off_base k (depends is))
-      (λ one found. off_base one.at (logged (contains_map (λ (l : Logged). l.at) (chain layout.base.image layout.base.point) one found)))
+      (λ one found. off_base one.at (logged (contains_map (λ (l : Logged). l.at) (chain layout.base.image layout.base.ckpt) one found)))
       (λ next follow there. off_base next (ends next follow refl)) image)
 
 pub wrote_more : (lists new : Contents) (at : ℕ) (content : List ℕ) → at < length lists → Wrote lists at content new → IsOneMore lists new at content

@@ -31,10 +31,10 @@ pub record HoldsWhere (lists new : Contents) (layout : Layout) (log : List Posit
   pub stands : AllByRecursion (HoldsOrOther new (log_version layout)) (chained layout)
   pub free : layout.next ≢ 0 → HoldsNone new (log_version layout) layout.next
   pub held : AllByRecursion (λ position. HoldsAs new (log_version layout) position.logged position.fate) log
-  pub fresh : (at : ℕ) → IsTrue (is_in_node layout.base.point.extent at) → ¬ (Contains (log_addresses layout) at) → HoldsNone new (log_version layout) at
+  pub fresh : (at : ℕ) → IsTrue (is_in_node layout.base.ckpt.geom at) → ¬ (Contains (log_addresses layout) at) → HoldsNone new (log_version layout) at
   pub within : count ≤ length layout.log
   pub settled : AllByRecursion (HoldsAlone new (log_version layout)) (take count (chained layout))
-  pub pages : (at : ℕ) (owner : ℕ × ℕ) → map.get layout.owners at ≡ Some owner → IsTrue (is_in_data layout.base.point.extent at) → Fewer lists new at
+  pub pages : (at : ℕ) (owner : ℕ × ℕ) → map.get layout.owners at ≡ Some owner → IsTrue (is_in_data layout.base.ckpt.geom at) → Fewer lists new at
 
 module _ (lists new : Contents) (layout : Layout) (state : State) (keeps : KeepsLog lists layout state)
     (pending : Option Reference) (log : List Position) (settled : ℕ) (tree : Option Rows) (acknowledged : ℕ)
@@ -55,7 +55,7 @@ module _ (lists new : Contents) (layout : Layout) (state : State) (keeps : Keeps
     no_log = keeps.no_log;
     log = record {
       linked = record {
-        follow = subst (λ (c : List Logged). Follow layout.base.point.head.log_start c layout.next) (sym same) keeps.log.linked.follow;
+        follow = subst (λ (c : List Logged). Follow layout.base.ckpt.head.log_start c layout.next) (sym same) keeps.log.linked.follow;
         held = subst (AllByRecursion (HoldsOrOther new (log_version layout))) (sym same) where_held.stands;
         free = where_held.free;
       };
@@ -83,4 +83,4 @@ module _ (lists new : Contents) (layout : Layout) (state : State) (keeps : Keeps
   }
     where
       one_mark : (place : ℕ) (mark : Mark) → Unit {0} → HoldsMark lists layout state.base place mark → HoldsMark new after state.base place mark
-      one_mark place mark known = mark_kept lists new layout after state.base place mark refl (ap (λ c. block_in c place) same) (λ page. ap (λ c. marked_address layout.base.image layout.base.point c place page) same) (λ at owner is. is) where_held.pages
+      one_mark place mark known = mark_kept lists new layout after state.base place mark refl (ap (λ c. block_in c place) same) (λ page. ap (λ c. marked_address layout.base.image layout.base.ckpt c place page) same) (λ at owner is. is) where_held.pages

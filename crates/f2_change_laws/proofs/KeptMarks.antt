@@ -23,7 +23,7 @@ module _ (lists new : Contents) (layout other : Layout) (base : Rows) (place : �
     (same : other.base ≡ layout.base) (block : block_in (chained other) place ≡ block_in (chained layout) place)
     (addresses : (page : ℕ) → address_at other place page ≡ address_at layout place page)
     (owners : (at : ℕ) (owner : ℕ × ℕ) → map.get layout.owners at ≡ Some owner → map.get other.owners at ≡ Some owner)
-    (fewer : (at : ℕ) (owner : ℕ × ℕ) → map.get layout.owners at ≡ Some owner → IsTrue (is_in_data layout.base.point.extent at) → Fewer lists new at) where
+    (fewer : (at : ℕ) (owner : ℕ × ℕ) → map.get layout.owners at ≡ Some owner → IsTrue (is_in_data layout.base.ckpt.geom at) → Fewer lists new at) where
   pub mark_kept : HoldsMark lists layout base place mark → HoldsMark new other base place mark
   mark_kept holds = record {
     ino = holds.ino ∙ ap footer_ino (sym block);
@@ -40,8 +40,8 @@ module _ (lists new : Contents) (layout other : Layout) (base : Rows) (place : �
         (page_kept lists new (address_at layout place page) (map.get mark.row.pages page) (λ some. fewer (address_at layout place page) (mark.ino, page) (holds.owned page less some) (holds.in_zone page less some)) (holds.pages page less));
     owned = λ page less some. owners (address_at other place page) (mark.ino, page)
         (subst (λ at. map.get layout.owners at ≡ Some (mark.ino, page)) (sym (addresses page)) (holds.owned page less (λ zero. some (addresses page ∙ zero))));
-    in_zone = λ page less some. subst (λ (held : Reference). IsTrue (is_in_data held.point.extent (address_at other place page))) (sym same)
-        (subst (λ at. IsTrue (is_in_data layout.base.point.extent at)) (sym (addresses page)) (holds.in_zone page less (λ zero. some (addresses page ∙ zero))));
+    in_zone = λ page less some. subst (λ (held : Reference). IsTrue (is_in_data held.ckpt.geom (address_at other place page))) (sym same)
+        (subst (λ at. IsTrue (is_in_data layout.base.ckpt.geom at)) (sym (addresses page)) (holds.in_zone page less (λ zero. some (addresses page ∙ zero))));
   }
 
 -- the marks of a state that leaves the same and acknowledges no fewer

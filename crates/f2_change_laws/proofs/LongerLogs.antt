@@ -32,12 +32,12 @@ module _ (log : List Logged) (one : Logged) where
   logged_same place ino None small = refl
   logged_same place ino (Some offset) small = last_same (place + 1) ino offset (omega (arith, small))
 
-  module _ (image : Image) (point : Checkpoint) (page : ℕ) where
+  module _ (image : Image) (ckpt : Checkpoint) (page : ℕ) where
     -- the address in an inode and the node that the log has of it
     abbrev address_by : List ℕ → Option (List ℕ) → ℕ
-    address_by block direct = address_in block (or_below direct (base_direct image point (node image point (footer_ino block)) page)) page
+    address_by block direct = address_in block (or_below direct (base_direct image ckpt (node image ckpt (footer_ino block)) page)) page
 
-    pub address_same : (place : ℕ) → place < length log → marked_address image point (log ++ one ∷ []) place page ≡ marked_address image point log place page
+    pub address_same : (place : ℕ) → place < length log → marked_address image ckpt (log ++ one ∷ []) place page ≡ marked_address image ckpt log place page
     address_same place small =
         ap (λ block. address_by block (logged_direct (log ++ one ∷ []) place (footer_ino block) (direct_of page))) (block_before log one place small)
         ∙ ap (address_by (block_in log place)) (logged_same place (footer_ino (block_in log place)) (direct_of page) small)

@@ -65,19 +65,19 @@ module _ (lists new : Contents) (layout : Layout) (state : State) (place : ℕ) 
   off = more_off lists new one.at one.block more
 
   off_low : (k : ℕ) → k < NAT_START → Fewer lists new k
-  off_low k low = off k (λ e. let range = node_range layout.base.point.extent one.at is_address.0 in omega (arith, low, range.0, e))
+  off_low k low = off k (λ e. let range = node_range layout.base.ckpt.geom one.at is_address.0 in omega (arith, low, range.0, e))
 
   submit_packs : KeepsPacks new (with_fate layout place fate) state
   submit_packs =
       packs_kept lists new more.size layout state (with_fate layout place fate).log layout.settled layout.next layout.nids layout.owners state.marks state.acknowledged packs (more.whole packs.whole block)
-      (heads_kept lists new more.size layout.base layout.pending (off_low (tail_address layout.base.point.side) (tail_low layout.base.point.side))
-      (off_low (tail_address (other_side layout.base.point.side)) (tail_low (other_side layout.base.point.side)))
-      (off_low (head_address (other_side layout.base.point.side)) (head_low (other_side layout.base.point.side))).from packs.packs)
-      (λ k inside. more_all lists new one.at one.block more (λ content. footer_version content % 2 ^ 32 ≤ layout.base.point.head.version) k (λ here. early) (packs.no_later k inside))
+      (heads_kept lists new more.size layout.base layout.pending (off_low (tail_address layout.base.ckpt.side) (tail_low layout.base.ckpt.side))
+      (off_low (tail_address (other_side layout.base.ckpt.side)) (tail_low (other_side layout.base.ckpt.side)))
+      (off_low (head_address (other_side layout.base.ckpt.side)) (head_low (other_side layout.base.ckpt.side))).from packs.packs)
+      (λ k inside. more_all lists new one.at one.block more (λ content. footer_version content % 2 ^ 32 ≤ layout.base.ckpt.head.version) k (λ here. early) (packs.no_later k inside))
       (some_kept lists new more.size layout.base layout.pending state.pending (λ other rows there holds. absurd (some_none other layout.pending alone there)) packs.pending)
     where
-      early : footer_version one.block % 2 ^ 32 ≤ layout.base.point.head.version
-      early = omega (arith, ap (λ n. n % 2 ^ 32) own, log_version_low layout.base.point.head packs.early)
+      early : footer_version one.block % 2 ^ 32 ≤ layout.base.ckpt.head.version
+      early = omega (arith, ap (λ n. n % 2 ^ 32) own, log_version_low layout.base.ckpt.head packs.early)
 
   -- other places have other addresses
   chain_place : (k : ℕ) (d : Logged) → k < length layout.log → slice_index_or (log_addresses layout) k d.at ≡ (slice_index_or (chained layout) k d).at
@@ -137,8 +137,8 @@ module _ (lists new : Contents) (layout : Layout) (state : State) (place : ℕ) 
   submit_log : KeepsLog new (with_fate layout place fate) state
   submit_log =
       log_kept lists new layout state keeps layout.pending (with_fate layout place fate).log layout.settled state.pending state.acknowledged same
-      (image_kept lists new more.size layout.base state.base [] (λ k is. off_low k (tells_low layout.base.point k is))
-      (λ k is. off k (λ e. depends_off layout.base.image layout.base.point keeps.base.means.sound one.at is_address.0 is_address.1 (subst (DependsOn layout.base.image layout.base.point) e is))) keeps.base)
+      (image_kept lists new more.size layout.base state.base [] (λ k is. off_low k (tells_low layout.base.ckpt k is))
+      (λ k is. off k (λ e. depends_off layout.base.image layout.base.ckpt keeps.base.means.sound one.at is_address.0 is_address.1 (subst (DependsOn layout.base.image layout.base.ckpt) e is))) keeps.base)
       record {
         stands = stands;
         free = λ there. fewer_none lists new layout.next (log_version layout) (off layout.next (λ e. differ_last (log_addresses layout) layout.next keeps.log.differ one.at in_addresses (sym e))) (keeps.log.linked.free there);
@@ -148,8 +148,8 @@ module _ (lists new : Contents) (layout : Layout) (state : State) (place : ℕ) 
         settled = each_within (HoldsAlone lists (log_version layout)) (HoldsAlone new (log_version layout)) (take layout.settled (chained layout))
             (λ two found stands. ((off two.at (not_alone two stands)).one two.block stands.0, stands.1)) keeps.log.settled;
         pages = λ k owner is inside. off k (λ e.
-            let range = node_range layout.base.point.extent one.at is_address.0 in
-            omega (arith, range.1, data_range layout.base.point.extent k inside, e));
+            let range = node_range layout.base.ckpt.geom one.at is_address.0 in
+            omega (arith, range.1, data_range layout.base.ckpt.geom k inside, e));
       }
       (omega arith) keeps.acknowledged
     where

@@ -16,40 +16,40 @@ not_false : (b : Bool) → ¬ (b ≡ false) → IsTrue b
 not_false true other = refl
 not_false false other = absurd (other refl)
 
-pub version_some : (image : Image) (point : Checkpoint) → IsCheckpoint image point → 1 ≤ point.head.version
-version_some image point checkpoint = subst (λ head. 1 ≤ head.version) (sym checkpoint.head) checkpoint.newest.valid.version
+pub version_some : (image : Image) (ckpt : Checkpoint) → IsCheckpoint image ckpt → 1 ≤ ckpt.head.version
+version_some image ckpt checkpoint = subst (λ head. 1 ≤ head.version) (sym checkpoint.head) checkpoint.newest.valid.version
 
-pub start_in_zone : (image : Image) (point : Checkpoint) → IsCheckpoint image point → IsTrue (is_in_node point.extent point.head.log_start)
-start_in_zone image point checkpoint = subst (λ head. IsTrue (is_in_node point.extent head.log_start)) (sym checkpoint.head) checkpoint.newest.valid.log_start
+pub start_in_zone : (image : Image) (ckpt : Checkpoint) → IsCheckpoint image ckpt → IsTrue (is_in_node ckpt.geom ckpt.head.log_start)
+start_in_zone image ckpt checkpoint = subst (λ head. IsTrue (is_in_node ckpt.geom head.log_start)) (sym checkpoint.head) checkpoint.newest.valid.log_start
 
-module _ (image : Image) (point : Checkpoint) (sound : IsSound image point) where
-  node_in_zone : (ino offset nid : ℕ) → IsNode image point ino offset nid → IsTrue (is_in_node point.extent (node_address image point nid))
+module _ (image : Image) (ckpt : Checkpoint) (sound : IsSound image ckpt) where
+  node_in_zone : (ino offset nid : ℕ) → IsNode image ckpt ino offset nid → IsTrue (is_in_node ckpt.geom (node_address image ckpt nid))
   node_in_zone ino offset nid is =
-      not_false (is_in_node point.extent (node_address image point nid)) (λ out. sound BadNat nid no_end (sound_table image point sound, faults.nowhere ino offset is out))
+      not_false (is_in_node ckpt.geom (node_address image ckpt nid)) (λ out. sound BadNat nid no_end (sound_table image ckpt sound, faults.nowhere ino offset is out))
     where
       no_end : BadNat ≢ VersionEnd
       no_end e = cc
 
-  page_in_zone : (ino number at : ℕ) → IsPage image point ino number at → IsTrue (is_in_data point.extent at)
-  page_in_zone ino number at is = not_false (is_in_data point.extent at) (λ out. sound OutOfZone at no_end (faults.page (sound_table image point sound) ino number is out))
+  page_in_zone : (ino number at : ℕ) → IsPage image ckpt ino number at → IsTrue (is_in_data ckpt.geom at)
+  page_in_zone ino number at is = not_false (is_in_data ckpt.geom at) (λ out. sound OutOfZone at no_end (faults.page (sound_table image ckpt sound) ino number is out))
     where
       no_end : OutOfZone ≢ VersionEnd
       no_end e = cc
 
   -- above the packs
-  pub depends_high : (at : ℕ) → DependsOn image point at → NAT_START ≤ at
-  depends_high at (table nid less is) = let range = table_range point.extent nid (is_second_copy point.head.bitmap (nat_block_of nid)) less in omega (arith, range.0, is)
-  depends_high at (node ino offset nid is e) = let range = node_range point.extent (node_address image point nid) (node_in_zone ino offset nid is) in omega (arith, range.0, e)
-  depends_high at (page ino number is) = let range = data_range point.extent at (page_in_zone ino number at is) in omega (arith, range)
+  pub depends_high : (at : ℕ) → DependsOn image ckpt at → NAT_START ≤ at
+  depends_high at (table nid less is) = let range = table_range ckpt.geom nid (is_second_copy ckpt.head.bitmap (nat_block_of nid)) less in omega (arith, range.0, is)
+  depends_high at (node ino offset nid is e) = let range = node_range ckpt.geom (node_address image ckpt nid) (node_in_zone ino offset nid is) in omega (arith, range.0, e)
+  depends_high at (page ino number is) = let range = data_range ckpt.geom at (page_in_zone ino number at is) in omega (arith, range)
 
   -- in the node zone the nodes alone
-  pub depends_off : (at : ℕ) → IsTrue (is_in_node point.extent at) → ((ino offset nid : ℕ) → IsNode image point ino offset nid → node_address image point nid ≢ at) → ¬ (DependsOn image point at)
+  pub depends_off : (at : ℕ) → IsTrue (is_in_node ckpt.geom at) → ((ino offset nid : ℕ) → IsNode image ckpt ino offset nid → node_address image ckpt nid ≢ at) → ¬ (DependsOn image ckpt at)
   depends_off at inside no_node (table nid less is) =
-      let range = table_range point.extent nid (is_second_copy point.head.bitmap (nat_block_of nid)) less in
-      let zone = node_range point.extent at inside in
+      let range = table_range ckpt.geom nid (is_second_copy ckpt.head.bitmap (nat_block_of nid)) less in
+      let zone = node_range ckpt.geom at inside in
       omega (arith, range.1, is, zone.0)
   depends_off at inside no_node (node ino offset nid is e) = no_node ino offset nid is (sym e)
   depends_off at inside no_node (page ino number is) =
-      let range = data_range point.extent at (page_in_zone ino number at is) in
-      let zone = node_range point.extent at inside in
+      let range = data_range ckpt.geom at (page_in_zone ino number at is) in
+      let zone = node_range ckpt.geom at inside in
       omega (arith, range, zone.1)

@@ -21,10 +21,10 @@ TailsMayBeWritten =
     IsStored lists layout state →
     layout.pending ≡ None →
     HoldsPending lists layout.base pending tree →
-    format_of pending.point ≡ state.next_format →
-    tail_address pending.point.side < length lists →
+    format_of pending.ckpt ≡ state.next_format →
+    tail_address pending.ckpt.side < length lists →
     IsBlock (tail_of pending) →
-    Wrote lists (tail_address pending.point.side) (tail_of pending) new →
+    Wrote lists (tail_address pending.ckpt.side) (tail_of pending) new →
     IsStored new (record layout { pending = Some pending }) (record state { pending = Some tree })
 
 -- the layout after a checkpoint: the pending tree is the base, and nothing stands in its log yet
@@ -34,7 +34,7 @@ based_on pending nids owners = record {
   pending = None;
   log = [];
   settled = 0;
-  next = pending.point.head.log_start;
+  next = pending.ckpt.head.log_start;
   nids = nids;
   owners = owners;
 }
@@ -55,11 +55,11 @@ FlushedTailsCount =
     IsStored lists layout state →
     layout.pending ≡ Some pending →
     state.pending ≡ Some tree →
-    last_of (contents_at lists (tail_address pending.point.side)) ≡ tail_of pending →
+    last_of (contents_at lists (tail_address pending.ckpt.side)) ≡ tail_of pending →
     IsDone state after tree →
-    pending.point.head.version < 2 ^ 32 →
-    IsLogAddress (based_on pending nids owners) pending.point.head.log_start →
+    pending.ckpt.head.version < 2 ^ 32 →
+    IsLogAddress (based_on pending nids owners) pending.ckpt.head.log_start →
     HasNids (based_on pending nids owners) →
     HasOwners (based_on pending nids owners) →
-    IsProperTree (image_limits pending.point.extent) tree →
+    IsProperTree (image_limits pending.ckpt.geom) tree →
     KeepsPacks (flushed lists) (based_on pending nids owners) after × KeepsLog (flushed lists) (based_on pending nids owners) after

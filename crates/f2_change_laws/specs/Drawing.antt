@@ -18,7 +18,7 @@ use Rattle.f2_stored.specs.Stored.{KeepsPacks, KeepsLog}
 -- a block may be given the next position: there is one, the block carries the log's version and names a further address or none, and its
 -- nid is its own
 pub record MayBeDrawn (layout : Layout) (block : List ℕ) : Type 0 where
-  pub room : length layout.log < node_third layout.base.point.extent
+  pub room : length layout.log < node_third layout.base.ckpt.geom
   pub there : layout.next ≢ 0
   pub version : footer_version block ≡ log_version layout
   pub next : footer_next block ≢ 0 → IsLogAddress layout (footer_next block)
@@ -47,8 +47,8 @@ MarksMayBeDrawn =
     is_marked block ≡ true →
     MayCount layout (footer_ino block) →
     ((at : ℕ) (owner : ℕ × ℕ) → map.get layout.owners at ≡ Some owner → map.get owners at ≡ Some owner) →
-    map.len owners ≤ 2 * data_third layout.base.point.extent →
+    map.len owners ≤ 2 * data_third layout.base.ckpt.geom →
     HoldsMark lists (with_drawn layout block owners) state.base (length layout.log) mark →
-    AreFitting (image_limits layout.base.point.extent) (record state { marks = state.marks ++ mark ∷ [] }) →
+    AreFitting (image_limits layout.base.ckpt.geom) (record state { marks = state.marks ++ mark ∷ [] }) →
     KeepsPacks lists (with_drawn layout block owners) (record state { marks = state.marks ++ mark ∷ [] })
     × KeepsLog lists (with_drawn layout block owners) (record state { marks = state.marks ++ mark ∷ [] })

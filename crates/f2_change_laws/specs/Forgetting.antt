@@ -13,7 +13,7 @@ use Rattle.f2_stored.specs.Stored.{KeepsPacks, KeepsLog}
 -- fewer numbers are known: those of the nodes of the base and of the blocks of the log that count are among them
 pub record AreFewer (layout : Layout) (nids : Nids) : Type 0 where
   pub known : (one : ℕ × ℕ) (nid : ℕ) → map.get nids one ≡ Some nid → map.get layout.nids one ≡ Some nid
-  pub base : (ino offset nid : ℕ) → IsNode layout.base.image layout.base.point ino offset nid → map.get nids (ino, offset) ≡ Some nid
+  pub base : (ino offset nid : ℕ) → IsNode layout.base.image layout.base.ckpt ino offset nid → map.get nids (ino, offset) ≡ Some nid
   pub log : (place : ℕ) → place < length (chained layout) → CountsAt (chained layout) place
       → map.get nids (footer_ino (block_in (chained layout) place), footer_offset (block_in (chained layout) place)) ≡ Some (footer_nid (block_in (chained layout) place))
 

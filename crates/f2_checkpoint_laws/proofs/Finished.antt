@@ -38,7 +38,7 @@ module _ (lists : Contents) (layout : Layout) (state : State) (places : Places) 
   done = record { base = refl; marks = refl; acknowledged = refl; pending = refl; format = refl; version = refl }
 
   -- all that a checkpoint has still to write is written
-  live : IsLiveAt lists pending.point.extent state.live places all_written
+  live : IsLiveAt lists pending.ckpt.geom state.live places all_written
   live = record {
     laid = is.live.laid;
     nodes = λ ino offset node there out. is.live.nodes ino offset node there (is.written.nodes ino offset node there);
@@ -74,7 +74,7 @@ module _ (lists : Contents) (layout : Layout) (state : State) (places : Places) 
         log = counts.1;
         none_pending = refl;
         proper = is.proper;
-        live = live_flushed lists pending.point.extent state.live places all_written live;
+        live = live_flushed lists pending.ckpt.geom state.live places all_written live;
         told = checkpoints_tell_all (based_on pending nids owners) after places refl is.stands;
         tied = tied;
         fsyncs = λ other ino progress found. absurd (idle other (InFsync ino progress) found);

@@ -18,7 +18,7 @@ flush_keeps lists layout state places unwritten is = record {
   stored = flushes_keep lists layout state is.stored;
   none_pending = is.none_pending;
   proper = is.proper;
-  live = live_flushed lists layout.base.point.extent state.live places unwritten is.live;
+  live = live_flushed lists layout.base.ckpt.geom state.live places unwritten is.live;
 }
 
 pub block_keeps : CheckpointBlocksKeep
@@ -26,7 +26,7 @@ block_keeps lists new layout state places unwritten at content is free elsewhere
   stored = free_writes_keep lists new layout state at content is.stored within free may wrote;
   none_pending = is.none_pending;
   proper = is.proper;
-  live = wrote_elsewhere lists state.live places unwritten layout.base.point.extent is.live new at content elsewhere wrote;
+  live = wrote_elsewhere lists state.live places unwritten layout.base.ckpt.geom is.live new at content elsewhere wrote;
 }
 
 -- each row of a proper tree stands under its own ino
@@ -38,7 +38,7 @@ page_stands lists new layout state places unwritten ino page at row content is o
   stored = free_writes_keep lists new layout state at content is.stored within free may (inl written);
   none_pending = is.none_pending;
   proper = is.proper;
-  live = keyed_pages_stand lists new layout.base.point.extent state.live places unwritten ino page at row content (own_key _ state.live is.proper) is.live of_tree was elsewhere within in_zone block written;
+  live = keyed_pages_stand lists new layout.base.ckpt.geom state.live places unwritten ino page at row content (own_key _ state.live is.proper) is.live of_tree was elsewhere within in_zone block written;
 }
 
 pub node_stands : CheckpointNodesStand
@@ -46,5 +46,5 @@ node_stands lists new layout state places unwritten ino offset old node content 
   stored = free_writes_keep lists new layout state node.at content is.stored within free may (inl written);
   none_pending = is.none_pending;
   proper = is.proper;
-  live = live_with_node layout.base.point.extent state.live places ino offset old node was keeps lists new unwritten content is.live elsewhere here within written;
+  live = live_with_node layout.base.ckpt.geom state.live places ino offset old node was keeps lists new unwritten content is.live elsewhere here within written;
 }

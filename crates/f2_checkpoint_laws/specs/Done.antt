@@ -31,11 +31,11 @@ pub record IsBeforeLastFlush (lists : Contents) (layout : Layout) (state : State
   pub stored : IsStored lists layout state
   pub there : layout.pending ≡ Some pending
   pub tree : state.pending ≡ Some state.live
-  pub tail : last_of (contents_at lists (tail_address pending.point.side)) ≡ tail_of pending
-  pub early : pending.point.head.version < 2 ^ 32
-  pub proper : IsProperTree (image_limits pending.point.extent) state.live
-  pub stands : IsTreeAt pending.image pending.point state.live places
-  pub live : IsLiveAt lists pending.point.extent state.live places unwritten
+  pub tail : last_of (contents_at lists (tail_address pending.ckpt.side)) ≡ tail_of pending
+  pub early : pending.ckpt.head.version < 2 ^ 32
+  pub proper : IsProperTree (image_limits pending.ckpt.geom) state.live
+  pub stands : IsTreeAt pending.image pending.ckpt state.live places
+  pub live : IsLiveAt lists pending.ckpt.geom state.live places unwritten
   pub written : IsWrittenOut places unwritten
   pub in_flight : map.get state.flights seat ≡ Some (InCheck plan)
   pub alone : (other : ℕ) (flight : Flight) → map.get state.flights other ≡ Some flight → other ≡ seat

@@ -19,8 +19,8 @@ use Rattle.f2_stored.specs.Stored.{IsStored}
 pub record IsCheckpointing (lists : Contents) (layout : Layout) (state : State) (places : Places) (unwritten : Unwritten) : Type 0 where
   pub stored : IsStored lists layout state
   pub none_pending : layout.pending ≡ None
-  pub proper : IsProperTree (image_limits layout.base.point.extent) state.live
-  pub live : IsLiveAt lists layout.base.point.extent state.live places unwritten
+  pub proper : IsProperTree (image_limits layout.base.ckpt.geom) state.live
+  pub live : IsLiveAt lists layout.base.ckpt.geom state.live places unwritten
 
 -- a page, a file's own or a directory's names, is written to a free address
 abbrev pub CheckpointPagesStand : Type 0
@@ -33,7 +33,7 @@ CheckpointPagesStand =
     IsFree layout at →
     IsElsewhere places at →
     at < length lists →
-    IsTrue (is_in_data layout.base.point.extent at) →
+    IsTrue (is_in_data layout.base.ckpt.geom at) →
     MayBeWritten layout at content →
     IsWritten at content lists new →
     IsCheckpointing new layout state (with_page places ino page at) (page_written unwritten ino page)
@@ -45,7 +45,7 @@ CheckpointNodesStand =
     IsCheckpointing lists layout state places unwritten →
     map.get places.nodes (ino, offset) ≡ Some old →
     node.nid ≡ old.nid →
-    IsNodeHere layout.base.point.extent state.live places ino offset node content →
+    IsNodeHere layout.base.ckpt.geom state.live places ino offset node content →
     IsFree layout node.at →
     IsElsewhere places node.at →
     node.at < length lists →

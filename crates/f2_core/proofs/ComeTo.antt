@@ -1,7 +1,7 @@
 -- Calls of a core one after another.
 use Rattle.std.proofs.Common.{◌≡◌, ℕ, ◌+◌, ◌≤◌, ◌^◌, ◌-◌, min, List, [], ◌∷◌, ◌++◌, refl, sym, ap, ◌∙◌, subst, arith, append_assoc, append-nil}
 use Rattle.std.specs.Prelude.{Option, IsSome, length}
-use Rattle.f2_format.specs.Geometry.{Extent}
+use Rattle.f2_format.specs.Geometry.{ImageGeometry}
 use Rattle.f2_disk.specs.Contents.{Contents}
 use Rattle.f2_disk.specs.Faults.{Rose}
 use Rattle.f2_disk.specs.Meter.{Meter, HasFailed}
@@ -42,14 +42,14 @@ come-none old told from is = record {
 }
 
 -- one call more
-lead-push : (extent : Extent) (from mid to : State) (calls : List Event) (answers : List Answer) (events more : List Happening) (call : Event) (answer : Answer) → LeadAll extent from calls answers events mid
-    → LeadsTo extent mid call answer more to → LeadAll extent from (calls ++ call ∷ []) (answers ++ answer ∷ []) (events ++ more) to
-lead-push extent from mid to [] [] events more call answer so one =
-    (more, [], to, subst (λ s. LeadsTo extent s call answer more to) (sym so.1) one, (refl, refl), ap (λ es. es ++ more) so.0 ∙ sym (append-nil more))
-lead-push extent from mid to [] (a ∷ answers) events more call answer so one = absurd so
-lead-push extent from mid to (e ∷ calls) [] events more call answer so one = absurd so
-lead-push extent from mid to (e ∷ calls) (a ∷ answers) events more call answer so one =
-    (so.0, so.1 ++ more, so.2, so.3, lead-push extent so.2 mid to calls answers so.1 more call answer so.4 one, ap (λ es. es ++ more) so.5 ∙ append_assoc so.0 so.1 more)
+lead-push : (geom : ImageGeometry) (from mid to : State) (calls : List Event) (answers : List Answer) (events more : List Happening) (call : Event) (answer : Answer) → LeadAll geom from calls answers events mid
+    → LeadsTo geom mid call answer more to → LeadAll geom from (calls ++ call ∷ []) (answers ++ answer ∷ []) (events ++ more) to
+lead-push geom from mid to [] [] events more call answer so one =
+    (more, [], to, subst (λ s. LeadsTo geom s call answer more to) (sym so.1) one, (refl, refl), ap (λ es. es ++ more) so.0 ∙ sym (append-nil more))
+lead-push geom from mid to [] (a ∷ answers) events more call answer so one = absurd so
+lead-push geom from mid to (e ∷ calls) [] events more call answer so one = absurd so
+lead-push geom from mid to (e ∷ calls) (a ∷ answers) events more call answer so one =
+    (so.0, so.1 ++ more, so.2, so.3, lead-push geom so.2 mid to calls answers so.1 more call answer so.4 one, ap (λ es. es ++ more) so.5 ∙ append_assoc so.0 so.1 more)
 
 come-push : {D : Type 0} (old mid new : Seen D) (between told : Option Contents) (from : State) (calls : List Event) (answers : List Answer) (call : Event) (answer : Answer) → mid.geometry ≡ old.geometry
     → (so : ComeTo old mid between from calls answers) → ComesTo mid new told so.to call answer → ComeTo old new told from (calls ++ call ∷ []) (answers ++ answer ∷ [])

@@ -1,7 +1,7 @@
 -- An image can have a flat tree.
 use Rattle.std.proofs.Common.{◌≡◌, ◌≢◌, ℕ, ◌+◌, ◌-◌, ◌*◌, ◌/◌, ◌<◌, ◌≤◌, refl, arith, lit≤}
 use Rattle.std.specs.FinMap as map
-use Rattle.f2_format.specs.Geometry.{Extent, IsGeometry, main_blocks, node_third, data_third, nid_limit}
+use Rattle.f2_format.specs.Geometry.{ImageGeometry, IsGeometry, main_blocks, node_third, data_third, nid_limit}
 use Rattle.f2_format.specs.Inode.{SIZE_LIMIT}
 use Rattle.f2_model.specs.Tree.{Rows, ROOT, IsGoodTree, HasGoodPages}
 use Rattle.f2_model.specs.declared.rows.Row.{Row}
@@ -15,8 +15,8 @@ third_data : (main third room : ℕ) → third ≡ main / 12 → room ≡ (main 
 third_data main third room is data_is = omega (arith, is, data_is)
 
 -- the data zone has three times the third of the node zone
-pub data_third_large : (extent : Extent) → 3 * node_third extent ≤ data_third extent
-data_third_large extent = third_data (main_blocks extent) (node_third extent) (data_third extent) refl refl
+pub data_third_large : (geom : ImageGeometry) → 3 * node_third geom ≤ data_third geom
+data_third_large geom = third_data (main_blocks geom) (node_third geom) (data_third geom) refl refl
 
 le_trans : (a b c : ℕ) → a ≤ b → b ≤ c → a ≤ c
 le_trans a b c p q = omega (arith, p, q)
@@ -44,18 +44,18 @@ longer_files tree good = record {
   pages = λ ino row there. pages_longer row (good.pages ino row there);
 }
 
-module _ (extent : Extent) (geometry : IsGeometry extent) (tree : Rows) (flat : IsFlat extent tree) where
+module _ (geom : ImageGeometry) (geometry : IsGeometry geom) (tree : Rows) (flat : IsFlat geom tree) where
   files : HasRootFiles tree
-  files = files_of extent geometry tree flat
+  files = files_of geom geometry tree flat
 
   below : (ino len third nids : ℕ) → ino < len + ROOT → len ≤ third → 3 * third + 4 ≤ nids → ino < nids
   below ino len third nids low fits large = omega (arith, low, fits, large)
 
-  pub storable : IsStorable extent tree
+  pub storable : IsStorable geom tree
   storable = record {
     good = longer_files tree flat.good;
     low = λ ino row there other. (let dense = (flat.dense ino row there).0 in let apart : ino ≢ 3 = other in omega (arith, dense, apart));
-    numbered = λ ino row there. below ino (map.len tree) (node_third extent) (nid_limit extent) (flat.dense ino row there).1 flat.fits geometry.nids;
+    numbered = λ ino row there. below ino (map.len tree) (node_third geom) (nid_limit geom) (flat.dense ino row there).1 flat.fits geometry.nids;
     nodes = (let nodes = nodes_of tree files in let fits = flat.fits in omega (arith, nodes, fits));
     blocks = flat.room;
     short_files = page_short tree files;

@@ -1,7 +1,7 @@
 -- A disk that holds one image with a tree laid out in it.
 use Rattle.std.proofs.Common.{◌≡◌, ℕ, zero, suc, List, [], ◌∷◌, refl, sym, ap, ◌∙◌, subst, arith}
 use Rattle.std.specs.Prelude.{Contains}
-use Rattle.f2_format.specs.Geometry.{Extent, IsGeometry}
+use Rattle.f2_format.specs.Geometry.{ImageGeometry, IsGeometry}
 use Rattle.f2_disk.specs.Contents.{Contents, IsImage, alone, latest, flushed}
 use Rattle.f2_model.specs.Tree.{Rows}
 use Rattle.f2_image.specs.Images.{Image, IsSized, by_first, by_second}
@@ -16,10 +16,10 @@ use Rattle.f2_core.specs.Seen.{IsHeld}
 use Rattle.f2_core.proofs.FlatTrees.{storable}
 
 pub means : LaidImagesMean
-means image point tree stored can laid =
-    let is : IsStored image point tree stored = record { can = subst (λ extent. IsStorable extent tree) (sym laid.extent) can; laid = laid } in (
-      record { checkpoint = laid.checkpoint; sound = sound image point tree stored is; is_base = is_base image point tree stored is; are_marks = no_marks image point tree stored is tree },
-      clean image point tree stored is,
+means image ckpt tree stored can laid =
+    let is : IsStored image ckpt tree stored = record { can = subst (λ geom. IsStorable geom tree) (sym laid.geom) can; laid = laid } in (
+      record { checkpoint = laid.checkpoint; sound = sound image ckpt tree stored is; is_base = is_base image ckpt tree stored is; are_marks = no_marks image ckpt tree stored is tree },
+      clean image ckpt tree stored is,
     )
 
 -- one image is all that a disk reads and all that a crash leaves
@@ -45,16 +45,16 @@ pub image-alone : (image : Image) → IsImage (alone image) image
 image-alone [] = tt
 image-alone (content ∷ image) = ((zero, omega arith, refl), image-alone image)
 
-sized_geometry : (image : Image) (extent : Extent) → IsSized image extent → IsGeometry extent
-sized_geometry image extent (by_first right is) = subst IsGeometry (sym is) right.geometry
-sized_geometry image extent (by_second other right is) = subst IsGeometry (sym is) right.geometry
+sized_geometry : (image : Image) (geom : ImageGeometry) → IsSized image geom → IsGeometry geom
+sized_geometry image geom (by_first right is) = subst IsGeometry (sym is) right.geometry
+sized_geometry image geom (by_second other right is) = subst IsGeometry (sym is) right.geometry
 
-module _ (extent : Extent) (lists : Contents) (base : Rows) (stored : Stored) (held : IsHeld extent lists base stored) where
-  pub held-geometry : IsGeometry extent
-  held-geometry = subst IsGeometry (held.laid.1.extent ∙ held.sizes) (sized_geometry held.image held.laid.0.extent held.laid.1.checkpoint.sized)
+module _ (geom : ImageGeometry) (lists : Contents) (base : Rows) (stored : Stored) (held : IsHeld geom lists base stored) where
+  pub held-geometry : IsGeometry geom
+  held-geometry = subst IsGeometry (held.laid.1.geom ∙ held.sizes) (sized_geometry held.image held.laid.0.geom held.laid.1.checkpoint.sized)
 
-  pub held-storable : IsFlat extent base → IsStorable stored.geometry base
-  held-storable flat = subst (λ e. IsStorable e base) (sym held.sizes) (storable extent held-geometry base flat)
+  pub held-storable : IsFlat geom base → IsStorable stored.geometry base
+  held-storable flat = subst (λ e. IsStorable e base) (sym held.sizes) (storable geom held-geometry base flat)
 
   pub held-latest : latest lists ≡ held.image
   held-latest = ap latest held.one ∙ latest-alone held.image

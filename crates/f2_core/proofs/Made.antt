@@ -5,7 +5,7 @@ use Rattle.std.specs.List.{sum_by}
 use Rattle.std.specs.Ordering.{nat_cmp}
 use Rattle.std.specs.Cmp.{nat_cmp_total}
 use Rattle.std.specs.FinMap as map
-use Rattle.f2_format.specs.Geometry.{Extent, IsGeometry, data_third, node_third}
+use Rattle.f2_format.specs.Geometry.{ImageGeometry, IsGeometry, data_third, node_third}
 use Rattle.f2_disk.specs.Contents.{Contents, WhereTold}
 use Rattle.f2_model.specs.Tree.{ROOT, IsGoodTree, HasGoodPages}
 use Rattle.f2_model.specs.Count.{data_of_row, data_of_tree, dentry_blocks}
@@ -86,11 +86,11 @@ root_data =
 some_room : (third room : ℕ) → 4 ≤ third → 3 * third ≤ room → 1 ≤ room
 some_room third room zones large = omega (arith, zones, large)
 
-pub root_flat : (extent : Extent) → IsGeometry extent → IsFlat extent root_alone
-root_flat extent geometry = record {
+pub root_flat : (geom : ImageGeometry) → IsGeometry geom → IsFlat geom root_alone
+root_flat geom geometry = record {
   good = root_good;
   fits = (let zones = geometry.zones in let one = length-root in omega (arith, zones, one));
-  room = (let taken = root_data in let some = some_room (node_third extent) (data_third extent) geometry.zones (data_third_large extent) in omega (arith, taken, some));
+  room = (let taken = root_data in let some = some_room (node_third geom) (data_third geom) geometry.zones (data_third_large geom) in omega (arith, taken, some));
   dense = λ ino row there.
       let at : ino ≡ 3 = (only ino row there).0 in
       let one = length-root in
@@ -99,10 +99,10 @@ root_flat extent geometry = record {
 }
 
 -- a closed core with an empty history is in the state before the first mount
-pub made_state : (extent : Extent) (told : Option Contents) (history : History) (stored : Stored) → IsGeometry extent → history ≡ record { entries = []; choices = []; spare = 0 } → stored.version ≡ 1
-    → IfSome told (λ lists. IsHeld extent lists root_alone stored) → IsIn extent told None history (initial new_image)
-made_state extent told history stored geometry none first held =
-    subst (λ h. IsIn extent told None h (initial new_image)) (sym none) (record {
+pub made_state : (geom : ImageGeometry) (told : Option Contents) (history : History) (stored : Stored) → IsGeometry geom → history ≡ record { entries = []; choices = []; spare = 0 } → stored.version ≡ 1
+    → IfSome told (λ lists. IsHeld geom lists root_alone stored) → IsIn geom told None history (initial new_image)
+made_state geom told history stored geometry none first held =
+    subst (λ h. IsIn geom told None h (initial new_image)) (sym none) (record {
       run = record { events = []; happened = (omega arith, refl); entries_left = refl; choices_left = refl };
       mode = refl;
       flights = refl;
@@ -112,7 +112,7 @@ made_state extent told history stored geometry none first held =
       format = refl;
       logged = refl;
       entries = refl;
-      flat = root_flat extent geometry;
+      flat = root_flat geom geometry;
       older = λ ino row there. tt;
       stored = stored;
       newest = first;
@@ -122,7 +122,7 @@ made_state extent told history stored geometry none first held =
     })
 
 -- the disk of an image that was just made
-pub made_held : (extent : Extent) (was told : Option Contents) (stored : Stored) → IsSome was → WhereTold was told (IsMade stored) → stored.geometry ≡ extent → IfSome told (λ lists. IsHeld extent lists root_alone stored)
-made_held extent None told stored tells made sizes = absurd (cc)
-made_held extent (Some before) None stored tells made sizes = tt
-made_held extent (Some before) (Some now) stored tells made sizes = record { image = made.0; one = made.1; laid = made.3; sizes = sizes }
+pub made_held : (geom : ImageGeometry) (was told : Option Contents) (stored : Stored) → IsSome was → WhereTold was told (IsMade stored) → stored.geometry ≡ geom → IfSome told (λ lists. IsHeld geom lists root_alone stored)
+made_held geom None told stored tells made sizes = absurd (cc)
+made_held geom (Some before) None stored tells made sizes = tt
+made_held geom (Some before) (Some now) stored tells made sizes = record { image = made.0; one = made.1; laid = made.3; sizes = sizes }

@@ -1,7 +1,7 @@
 -- What a mount of a closed core comes to.
 use Rattle.std.proofs.Common.{◌≡◌, ◌⊎◌, inl, inr, Result, Ok, Err, is_err, OnErr, true, false, refl, sym, ap, ◌∙◌, true≢false}
 use Rattle.std.specs.Prelude.{Option, Some, None, IfSome, IsSome, is_some}
-use Rattle.f2_format.specs.Geometry.{Extent}
+use Rattle.f2_format.specs.Geometry.{ImageGeometry}
 use Rattle.f2_disk.specs.Contents.{Contents}
 use Rattle.f2_model.specs.Tree.{Rows}
 use Rattle.f2_model.specs.State.{State}
@@ -32,23 +32,23 @@ none_of None is = refl
 none_of (Some x) is = absurd (true≢false is)
 
 -- a disk that tells what it holds, and holds one image, keeps it where that is so
-pub still_told : (extent : Extent) (was now : Option Contents) (base : Rows) (stored : Stored) → IsSome was → IfSome was (λ lists. IsHeld extent lists base stored) → StaysHeld extent was now → now ≡ was
-still_told extent None now base stored tells held stays = absurd (cc)
-still_told extent (Some lists) now base stored tells held stays = stays base stored held
+pub still_told : (geom : ImageGeometry) (was now : Option Contents) (base : Rows) (stored : Stored) → IsSome was → IfSome was (λ lists. IsHeld geom lists base stored) → StaysHeld geom was now → now ≡ was
+still_told geom None now base stored tells held stays = absurd (cc)
+still_told geom (Some lists) now base stored tells held stays = stays base stored held
 
 -- and its tree is found
-pub found_is : (extent : Extent) (was : Option Contents) (base : Rows) (stored : Stored) (volume : Volume) → IsSome was → IsFlat extent base → IfSome was (λ lists. IsHeld extent lists base stored) → FindsHeld extent was volume
+pub found_is : (geom : ImageGeometry) (was : Option Contents) (base : Rows) (stored : Stored) (volume : Volume) → IsSome was → IsFlat geom base → IfSome was (λ lists. IsHeld geom lists base stored) → FindsHeld geom was volume
     → (volume.files ≡ base) × (volume.stored ≡ stored)
-found_is extent None base stored volume tells flat held found = absurd (cc)
-found_is extent (Some lists) base stored volume tells flat held found = found base stored flat held
+found_is geom None base stored volume tells flat held found = absurd (cc)
+found_is geom (Some lists) base stored volume tells flat held found = found base stored flat held
 
 -- a mount that finds no tree, where no call of the disk failed
-pub not_found : {D : Type 0} (disk after_disk : D) (extent : Extent) (volume : Option Volume) (before room after : History) (was told : Option Contents) (from : State) (why : MountRefusal) → IsIn extent was volume before from → volume ≡ None
+pub not_found : {D : Type 0} (disk after_disk : D) (geom : ImageGeometry) (volume : Option Volume) (before room after : History) (was told : Option Contents) (from : State) (why : MountRefusal) → IsIn geom was volume before from → volume ≡ None
     → ((why ≡ refusals.ReadFailed) ⊎ (why ≡ refusals.WriteFailed) → ⊥) → (why ≡ refusals.BadImage → after ≡ room) → (why ≡ refusals.NoMemory → after ≡ room) → room.entries ≡ before.entries → room.choices ≡ before.choices → told ≡ was
-    → ComesTo (seen disk extent volume before) (seen after_disk extent volume after) told from Mount (answers.NotMounted why)
-not_found disk after_disk extent volume before room after was told from refusals.ReadFailed at none calm bad memory entries choices same = absurd (calm (inl refl))
-not_found disk after_disk extent volume before room after was told from refusals.WriteFailed at none calm bad memory entries choices same = absurd (calm (inr refl))
-not_found disk after_disk extent volume before room after was told from refusals.BadImage at none calm bad memory entries choices same =
-    unfound disk after_disk extent volume before after was told from at none (ap (λ (h : History). h.entries) (bad refl) ∙ entries) (ap (λ (h : History). h.choices) (bad refl) ∙ choices) same
-not_found disk after_disk extent volume before room after was told from refusals.NoMemory at none calm bad memory entries choices same =
-    unmounted disk after_disk extent volume before after was told from at none (ap (λ (h : History). h.entries) (memory refl) ∙ entries) (ap (λ (h : History). h.choices) (memory refl) ∙ choices) same
+    → ComesTo (seen disk geom volume before) (seen after_disk geom volume after) told from Mount (answers.NotMounted why)
+not_found disk after_disk geom volume before room after was told from refusals.ReadFailed at none calm bad memory entries choices same = absurd (calm (inl refl))
+not_found disk after_disk geom volume before room after was told from refusals.WriteFailed at none calm bad memory entries choices same = absurd (calm (inr refl))
+not_found disk after_disk geom volume before room after was told from refusals.BadImage at none calm bad memory entries choices same =
+    unfound disk after_disk geom volume before after was told from at none (ap (λ (h : History). h.entries) (bad refl) ∙ entries) (ap (λ (h : History). h.choices) (bad refl) ∙ choices) same
+not_found disk after_disk geom volume before room after was told from refusals.NoMemory at none calm bad memory entries choices same =
+    unmounted disk after_disk geom volume before after was told from at none (ap (λ (h : History). h.entries) (memory refl) ∙ entries) (ap (λ (h : History). h.choices) (memory refl) ∙ choices) same

@@ -1,7 +1,7 @@
 -- What calls make of files.
 use Rattle.std.specs.Prelude.{◌≡◌, ℕ, ◌+◌, ◌≤◌, true, false, Option, Some, None}
 use Rattle.std.specs.FinMap as map
-use Rattle.f2_format.specs.Geometry.{Extent, node_third}
+use Rattle.f2_format.specs.Geometry.{ImageGeometry, node_third}
 use Rattle.f2_model.specs.Tree.{Rows, ROOT}
 use Rattle.f2_model.specs.Call.{answer, effect, refusal, space_refusal}
 use Rattle.f2_model.specs.Step.{adds_row}
@@ -18,14 +18,14 @@ IsChange (Write path pieces) = Unit {0}
 IsChange _ = ⊥
 
 -- a call took effect with this reply; a new row got the ino
-pub record TookEffect (extent : Extent) (old new : Rows) (request : Request) (said : Reply) (ino : ℕ) : Type 0 where
-  pub none : refusal (limits_of extent) old request ≡ None
-  pub space : space_refusal (limits_of extent) (effect old request (limits_of extent).nids) ≡ None
+pub record TookEffect (geom : ImageGeometry) (old new : Rows) (request : Request) (said : Reply) (ino : ℕ) : Type 0 where
+  pub none : refusal (limits_of geom) old request ≡ None
+  pub space : space_refusal (limits_of geom) (effect old request (limits_of geom).nids) ≡ None
   pub reply : said ≡ answer old request
   pub tree : new ≡ effect old request ino
 
 -- a call took effect: it changed rows, or added one under the number after the tree's last
-pub data IsChanged (extent : Extent) (old new : Rows) (request : Request) (choice : Option ℕ) : Type 0 where
-  in_place : adds_row request ≡ false → TookEffect extent old new request Done 0 → map.len new ≡ map.len old → choice ≡ None → IsChanged extent old new request choice
-  by_new_row : (ino : ℕ) → adds_row request ≡ true → TookEffect extent old new request Done ino → map.len new ≡ map.len old + 1 → ino ≡ map.len old + ROOT → map.len old + 1 ≤ node_third extent
-      → choice ≡ Some ino → IsChanged extent old new request choice
+pub data IsChanged (geom : ImageGeometry) (old new : Rows) (request : Request) (choice : Option ℕ) : Type 0 where
+  in_place : adds_row request ≡ false → TookEffect geom old new request Done 0 → map.len new ≡ map.len old → choice ≡ None → IsChanged geom old new request choice
+  by_new_row : (ino : ℕ) → adds_row request ≡ true → TookEffect geom old new request Done ino → map.len new ≡ map.len old + 1 → ino ≡ map.len old + ROOT → map.len old + 1 ≤ node_third geom
+      → choice ≡ Some ino → IsChanged geom old new request choice

@@ -1,7 +1,7 @@
 -- Events and answers of a core as those of the machine, and what one call comes to.
 use Rattle.std.specs.Prelude.{◌≡◌, ◌≢◌, ◌⊎◌, ℕ, ◌≤◌, List, [], ◌∷◌, ◌++◌, length, IfSome, Option, None}
 use Rattle.std.specs.List.{AllByRecursion}
-use Rattle.f2_format.specs.Geometry.{Extent}
+use Rattle.f2_format.specs.Geometry.{ImageGeometry}
 use Rattle.f2_disk.specs.Contents.{Contents}
 use Rattle.f2_model.specs.State.{State, initial}
 use Rattle.f2_model.specs.Step as machine
@@ -101,8 +101,8 @@ abbrev pub MOST_LEFT : ℕ
 MOST_LEFT = 4
 
 -- one call leads from a state to another by events of the machine
-pub record LeadsTo (extent : Extent) (from : State) (event : Event) (told : Answer) (events : List Happening) (to : State) : Type 0 where
-  pub happened : Happened (limits_of extent) calm from events to
+pub record LeadsTo (geom : ImageGeometry) (from : State) (event : Event) (told : Answer) (events : List Happening) (to : State) : Type 0 where
+  pub happened : Happened (limits_of geom) calm from events to
   pub stands : StandsFor event told events
   pub few : length (entries_of events) ≤ MOST_LEFT
 
@@ -122,12 +122,12 @@ pub record ComesTo {D : Type 0} (old new : Seen D) (told : Option Contents) (fro
   pub goes : GoesTo old new told events to
 
 -- calls one after another lead from a state to another
-abbrev pub LeadAll : Extent → State → List Event → List Answer → List Happening → State → Type 0
-LeadAll extent from [] [] events to = (events ≡ []) × (from ≡ to)
-LeadAll extent from [] (answer ∷ answers) events to = ⊥
-LeadAll extent from (event ∷ rest) [] events to = ⊥
-LeadAll extent from (event ∷ rest) (answer ∷ answers) events to =
-    (some more : List Happening) × (mid : State) × LeadsTo extent from event answer some mid × LeadAll extent mid rest answers more to × (events ≡ some ++ more)
+abbrev pub LeadAll : ImageGeometry → State → List Event → List Answer → List Happening → State → Type 0
+LeadAll geom from [] [] events to = (events ≡ []) × (from ≡ to)
+LeadAll geom from [] (answer ∷ answers) events to = ⊥
+LeadAll geom from (event ∷ rest) [] events to = ⊥
+LeadAll geom from (event ∷ rest) (answer ∷ answers) events to =
+    (some more : List Happening) × (mid : State) × LeadsTo geom from event answer some mid × LeadAll geom mid rest answers more to × (events ≡ some ++ more)
 
 -- calls of a core one after another
 pub record ComeTo {D : Type 0} (old new : Seen D) (told : Option Contents) (from : State) (calls : List Event) (answers : List Answer) : Type 0 where
@@ -145,10 +145,10 @@ pub record ComeToFirst {D : Type 0} (old new : Seen D) (told : Option Contents) 
   pub come : ComeTo old new told from first answers
 
 -- a closed core on a disk, with an empty history, which is in the state before the first mount
-pub record IsMade {D : Type 0} (extent : Extent) (told : Option Contents) (core : Seen D) : Type 0 where
-  pub sizes : core.geometry ≡ extent
+pub record IsMade {D : Type 0} (geom : ImageGeometry) (told : Option Contents) (core : Seen D) : Type 0 where
+  pub sizes : core.geometry ≡ geom
   pub closed : core.volume ≡ None
-  pub state : IsIn extent told core.volume core.history (initial new_image)
+  pub state : IsIn geom told core.volume core.history (initial new_image)
 
 -- a core lost power
 pub record HasCrashed {D : Type 0} (old new : Seen D) (told : Option Contents) (from : State) : Type 0 where

@@ -45,8 +45,8 @@ module _ (lists : Contents) (layout : Layout) (state : State) (places : Places) 
     (kept : IsKept lists layout state places unwritten) (there : map.get state.flights seat ≡ Some (InFsync ino progress)) (part : progress.part ≡ InNodes) (none : progress.slot ≡ None)
     (clean : (offset : ℕ) → set.contains state.dirty_nodes (ino, offset) ≡ false) (whole : set.contains state.shrunk ino ≡ false) (of_tree : map.get state.live ino ≡ Some row) (size : row.size ≤ SIZE_LIMIT)
     (may : MayBeDrawn layout block) (counting : MayCount layout ino) (next : IsNextElsewhere places (footer_next block)) (is_mark : IsMarkOf state places ino row block) (is : IsBlockFor state places ino 0 block)
-    (owns : OwnsPages places ino layout.owners owners) (few : map.len owners ≤ 2 * data_third layout.base.point.extent)
-    (fitting : AreFitting (image_limits layout.base.point.extent) (record state { marks = state.marks ++ record { ino = ino; row = row } ∷ [] })) where
+    (owns : OwnsPages places ino layout.owners owners) (few : map.len owners ≤ 2 * data_third layout.base.ckpt.geom)
+    (fitting : AreFitting (image_limits layout.base.ckpt.geom) (record state { marks = state.marks ++ record { ino = ino; row = row } ∷ [] })) where
   abbrev after : State
   after = (mark_drawn state seat ino row).after
 

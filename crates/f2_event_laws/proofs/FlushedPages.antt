@@ -100,7 +100,7 @@ module _ (lists : Contents) (layout : Layout) (state : State) (places : Places) 
         log = log_stays (flushed lists) layout state after in_memory settled.1;
         none_pending = kept.none_pending;
         proper = kept.proper;
-        live = live_flushed lists layout.base.point.extent state.live places unwritten kept.live;
+        live = live_flushed lists layout.base.ckpt.geom state.live places unwritten kept.live;
         told = record { told = kept.told.told };
         tied = tied;
         fsyncs = λ other file next found. fsyncs other file next (found_put state.flights seat (InFsync ino (in_nodes None)) other (InFsync file next) found);

@@ -44,5 +44,5 @@ module _ (lists : Contents) (layout : Layout) (one other : State) (same : LeaveT
     owners = keeps.owners;
     marks = subst₂ (HoldsMarks lists layout) (sym same.base) (sym same.marks) keeps.marks;
     acknowledged = subst (λ least. least ≤ marks_within layout layout.settled) (sym same.acknowledged) keeps.acknowledged;
-    fitting = fitting (image_limits layout.base.point.extent) keeps.fitting;
+    fitting = fitting (image_limits layout.base.ckpt.geom) keeps.fitting;
   }

@@ -1,6 +1,6 @@
 -- What a disk keeps of packs and log when a page is written to a free address of the data zone.
 use Rattle.std.proofs.Common.{ℕ, ◌<◌, IsTrue, List, length, arith}
-use Rattle.f2_format.specs.Geometry.{Extent, is_in_node, is_in_data}
+use Rattle.f2_format.specs.Geometry.{ImageGeometry, is_in_node, is_in_data}
 use Rattle.f2_disk.specs.Contents.{Contents, IsBlock, IsWritten}
 use Rattle.f2_model.specs.State.{State}
 use Rattle.f2_image.specs.Packs.{other_side}
@@ -12,16 +12,16 @@ use Rattle.f2_change_laws.proofs.OneMore.{IsOneMore, written_more}
 use Rattle.f2_change_laws.proofs.FreeWrites.{free_packs, free_log}
 
 -- no address is in both zones
-pub zones_apart : (extent : Extent) (at : ℕ) → IsTrue (is_in_node extent at) → ¬ (IsTrue (is_in_data extent at))
-zones_apart extent at node inside = let first = node_range extent at node in let second = data_range extent at inside in omega (arith, first.1, second)
+pub zones_apart : (geom : ImageGeometry) (at : ℕ) → IsTrue (is_in_node geom at) → ¬ (IsTrue (is_in_data geom at))
+zones_apart geom at node inside = let first = node_range geom at node in let second = data_range geom at inside in omega (arith, first.1, second)
 
 module _ (lists new : Contents) (layout : Layout) (state : State) (at : ℕ) (content : List ℕ) (packs : KeepsPacks lists layout state) (keeps : KeepsLog lists layout state) (free : IsFree layout at)
-    (within : at < length lists) (inside : IsTrue (is_in_data layout.base.point.extent at)) (block : IsBlock content) (written : IsWritten at content lists new) where
+    (within : at < length lists) (inside : IsTrue (is_in_data layout.base.ckpt.geom at)) (block : IsBlock content) (written : IsWritten at content lists new) where
   may : MayBeWritten layout at content
   may = record {
     block = block;
-    node = λ node. absurd (zones_apart layout.base.point.extent at node inside);
-    head = λ is. let low = head_low (other_side layout.base.point.side) in let range = data_range layout.base.point.extent at inside in absurd (omega (arith, low, range, is));
+    node = λ node. absurd (zones_apart layout.base.ckpt.geom at node inside);
+    head = λ is. let low = head_low (other_side layout.base.ckpt.side) in let range = data_range layout.base.ckpt.geom at inside in absurd (omega (arith, low, range, is));
   }
 
   more : IsOneMore lists new at content

@@ -115,7 +115,7 @@ module _ (lists new : Contents) (layout : Layout) (state : State) (places : Plac
     where
       same_told : (file low page : ℕ) → told_address layout_now file low page ≡ told_address layout file low page
       same_told file low page =
-          ap (λ (chain : List Logged). word_of (or_below (last_before chain (length chain) file low) (base_direct layout.base.image layout.base.point (node layout.base.image layout.base.point file) page)) (direct_slot page))
+          ap (λ (chain : List Logged). word_of (or_below (last_before chain (length chain) file low) (base_direct layout.base.image layout.base.ckpt (node layout.base.image layout.base.ckpt file) page)) (direct_slot page))
           (same_chain layout slot.position Written own_slot.small)
 
   others : OthersStay state after seat
@@ -259,7 +259,7 @@ submitted_slots lists new layout state places unwritten seat ino progress slot k
       log = log_stays new now state (with_progress state seat ino (record progress { slot = None })) in_memory disk.1;
       none_pending = kept.none_pending;
       proper = kept.proper;
-      live = live_with_node layout.base.point.extent state.live places ino (offset_of slot.drawn) node_block_for.node (record { nid = nid_at places ino (offset_of slot.drawn); at = (position_at layout slot.position).logged.at }) node_block_for.there (ap nid_of node_block_for.there)
+      live = live_with_node layout.base.ckpt.geom state.live places ino (offset_of slot.drawn) node_block_for.node (record { nid = nid_at places ino (offset_of slot.drawn); at = (position_at layout slot.position).logged.at }) node_block_for.there (ap nid_of node_block_for.there)
           lists new unwritten (position_at layout slot.position).logged.block kept.live (free lists new layout state places unwritten seat ino progress slot kept there has)
           (record { in_zone = (is_address lists layout kept.log.log slot.position own.small).0; own = here node_block_for; inode = node_block_for.inode }) within written;
       told = told lists new layout state places unwritten seat ino progress slot kept there has;

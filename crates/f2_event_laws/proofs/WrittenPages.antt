@@ -158,7 +158,7 @@ written_pages lists new layout state places unwritten ino page at row content ke
   log = log_stays new layout state (page_written state ino page) in_memory (page_log lists new layout state at content kept.packs kept.log free within zone block written);
   none_pending = kept.none_pending;
   proper = kept.proper;
-  live = keyed_pages_stand lists new layout.base.point.extent state.live places unwritten ino page at row content kept.proper.good.keyed kept.live of_tree was elsewhere within zone (of_regular places row page content regular has) written;
+  live = keyed_pages_stand lists new layout.base.ckpt.geom state.live places unwritten ino page at row content kept.proper.good.keyed kept.live of_tree was elsewhere within zone (of_regular places row page content regular has) written;
   told = told lists new layout state places unwritten ino page at kept dirty;
   tied = tied lists new layout state places unwritten ino page at kept dirty free;
   fsyncs = fsyncs lists new layout state places unwritten ino page at kept dirty content elsewhere written;

@@ -45,6 +45,6 @@ DrawnMarksKeep =
     IsMarkOf state places ino row block →
     IsBlockFor state places ino 0 block →
     OwnsPages places ino layout.owners owners →
-    map.len owners ≤ 2 * data_third layout.base.point.extent →
-    AreFitting (image_limits layout.base.point.extent) (record state { marks = state.marks ++ record { ino = ino; row = row } ∷ [] }) →
+    map.len owners ≤ 2 * data_third layout.base.ckpt.geom →
+    AreFitting (image_limits layout.base.ckpt.geom) (record state { marks = state.marks ++ record { ino = ino; row = row } ∷ [] }) →
     IsKept lists (with_drawn layout block owners) (mark_drawn state seat ino row).after places unwritten

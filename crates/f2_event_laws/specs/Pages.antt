@@ -29,7 +29,7 @@ WrittenPagesKeep =
     IsFree layout at →
     IsElsewhere places at →
     at < length lists →
-    IsTrue (is_in_data layout.base.point.extent at) →
+    IsTrue (is_in_data layout.base.ckpt.geom at) →
     IsBlock content →
     IsWritten at content lists new →
     IsKept new layout (page_written state ino page) (with_page places ino page at) (living.page_written unwritten ino page)

@@ -3,7 +3,7 @@ use Rattle.std.proofs.Common.{◌≡◌, ◌≢◌, ◌⊎◌, ◌↔◌, inl, i
 use Rattle.std.specs.Prelude.{Some, All}
 use Rattle.std.specs.FinMap as map
 use Rattle.std.proofs.lemmas.List.Elements.{All-from_recursion, recursion_from_All}
-use Rattle.f2_format.specs.Geometry.{Extent, IsGeometry, main_blocks, node_third, data_third}
+use Rattle.f2_format.specs.Geometry.{ImageGeometry, IsGeometry, main_blocks, node_third, data_third}
 use Rattle.f2_format.specs.Inode.{SIZE_LIMIT}
 use Rattle.f2_model.specs.Tree.{Rows, ROOT, HasGoodPages}
 use Rattle.f2_model.specs.declared.rows.Row.{Row}
@@ -22,14 +22,14 @@ third_small main third small is = omega (arith, small, is)
 main_small : (blocks rest main : ℕ) → blocks ≤ 65536 → main ≡ blocks - 8 - rest → main ≤ 65536
 main_small blocks rest main small is = omega (arith, small, is)
 
-pub node_third_small : (extent : Extent) → IsGeometry extent → node_third extent ≤ 5462
-node_third_small extent geometry = third_small (main_blocks extent) (node_third extent) (main_small extent.blocks (2 * extent.nat) (main_blocks extent) geometry.most_blocks refl) refl
+pub node_third_small : (geom : ImageGeometry) → IsGeometry geom → node_third geom ≤ 5462
+node_third_small geom geometry = third_small (main_blocks geom) (node_third geom) (main_small geom.blocks (2 * geom.nat) (main_blocks geom) geometry.most_blocks refl) refl
 
 third_data : (main third room : ℕ) → main ≤ 65536 → room ≡ (main - 3 * third) / 3 → room ≤ 65536
 third_data main third room small is = omega (arith, small, is)
 
-pub data_third_small : (extent : Extent) → IsGeometry extent → data_third extent ≤ 65536
-data_third_small extent geometry = third_data (main_blocks extent) (node_third extent) (data_third extent) (main_small extent.blocks (2 * extent.nat) (main_blocks extent) geometry.most_blocks refl) refl
+pub data_third_small : (geom : ImageGeometry) → IsGeometry geom → data_third geom ≤ 65536
+data_third_small geom geometry = third_data (main_blocks geom) (node_third geom) (data_third geom) (main_small geom.blocks (2 * geom.nat) (main_blocks geom) geometry.most_blocks refl) refl
 
 pages_shorter : (row : Row) → HasGoodPages SIZE_LIMIT row → row.size ≤ FILE_SIZE → HasGoodPages FILE_SIZE row
 pages_shorter row pages size = record {
@@ -40,15 +40,15 @@ pages_shorter row pages size = record {
   zeros = pages.zeros;
 }
 
-module _ (extent : Extent) (geometry : IsGeometry extent) (tree : Rows) where
-  pub files_of : IsFlat extent tree → HasRootFiles tree
+module _ (geom : ImageGeometry) (geometry : IsGeometry geom) (tree : Rows) where
+  pub files_of : IsFlat geom tree → HasRootFiles tree
   files_of flat = record {
     good = flat.good;
-    few = (let small = node_third_small extent geometry in let fits = flat.fits in omega (arith, small, fits));
+    few = (let small = node_third_small geom geometry in let fits = flat.fits in omega (arith, small, fits));
     files = flat.files;
   }
 
-  row_of : IsFlat extent tree → (ino : ℕ) (row : Row) → map.get tree ino ≡ Some row → IsFlatRow (map.len tree) row
+  row_of : IsFlat geom tree → (ino : ℕ) (row : Row) → map.get tree ino ≡ Some row → IsFlatRow (map.len tree) row
   row_of flat ino row there =
       let own : row.ino ≡ ino = flat.good.keyed ino row there in
       let dense = flat.dense ino row there in
@@ -65,7 +65,7 @@ module _ (extent : Extent) (geometry : IsGeometry extent) (tree : Rows) where
       by_ino (inl same) = inl (flat.good.keyed ino row there ∙ same)
       by_ino (inr other) = inr (flat.files ino row there other)
 
-  flat_of : IsStorable extent tree → map.len tree ≤ node_third extent → ((ino : ℕ) (row : Row) → map.get tree ino ≡ Some row → IsFlatRow (map.len tree) row) → IsFlat extent tree
+  flat_of : IsStorable geom tree → map.len tree ≤ node_third geom → ((ino : ℕ) (row : Row) → map.get tree ino ≡ Some row → IsFlatRow (map.len tree) row) → IsFlat geom tree
   flat_of can fits each = record {
     good = record {
       root = can.good.root;
@@ -91,7 +91,7 @@ module _ (extent : Extent) (geometry : IsGeometry extent) (tree : Rows) where
       by_file ino row there other (inr file) = file
 
   -- a tree that an image can have is flat where it has few enough rows and each of them is
-  pub flat_rows : IsStorable extent tree → map.len tree ≤ node_third extent → All (IsFlatRow (map.len tree)) (map.values tree) ↔ IsFlat extent tree
+  pub flat_rows : IsStorable geom tree → map.len tree ≤ node_third geom → All (IsFlatRow (map.len tree)) (map.values tree) ↔ IsFlat geom tree
   flat_rows can fits = (
     λ all. flat_of can fits (λ ino row there. of_all (IsFlatRow (map.len tree)) row (map.values tree) (recursion_from_All (IsFlatRow (map.len tree)) (map.values tree) all) (value_in tree ino row there)),
     λ flat. All-from_recursion (IsFlatRow (map.len tree)) (map.values tree) (each_in (IsFlatRow (map.len tree)) (map.values tree) (λ row there. let at = value_at tree row there in row_of flat at.0 row at.1)),

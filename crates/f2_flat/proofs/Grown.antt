@@ -4,7 +4,7 @@ use Rattle.std.specs.Prelude.{Option, Some, None, Ok, Err, is_some, nat_lt, if�
 use Rattle.std.specs.Bool.{then_some}
 use Rattle.std.specs.Cmp.{nat_cmp_total}
 use Rattle.std.specs.FinMap as map
-use Rattle.f2_format.specs.Geometry.{Extent, IsGeometry, node_third, data_third, nid_limit}
+use Rattle.f2_format.specs.Geometry.{ImageGeometry, IsGeometry, node_third, data_third, nid_limit}
 use Rattle.f2_format.specs.Packing.{slots_of_name}
 use Rattle.f2_model.specs.Tree.{Rows, ROOT, IsGoodTree, is_directory, walk, parent_path, last_name}
 use Rattle.f2_model.specs.Call.{walk_parent, to_directory, refusal, space_refusal, new_row, effect}
@@ -92,21 +92,21 @@ counts_with_file tree ino name counts free are =
 -- Refusals.
 
 -- want of space, from the two counts
-pub space_by_data : (extent : Extent) (tree : Rows) → nodes_of_tree tree ≤ node_third extent → space_refusal (limits_of extent) tree ≡ told_beyond Data (data_of_tree tree) (data_third extent)
-space_by_data extent tree nodes =
-    let first : nat_lt (node_third extent) (nodes_of_tree tree) ≡ false = not_lt (node_third extent) (nodes_of_tree tree) nodes in
-    rw first (by_test (nat_lt (data_third extent) (data_of_tree tree)) (NoSpace Data (data_of_tree tree) (data_third extent)))
+pub space_by_data : (geom : ImageGeometry) (tree : Rows) → nodes_of_tree tree ≤ node_third geom → space_refusal (limits_of geom) tree ≡ told_beyond Data (data_of_tree tree) (data_third geom)
+space_by_data geom tree nodes =
+    let first : nat_lt (node_third geom) (nodes_of_tree tree) ≡ false = not_lt (node_third geom) (nodes_of_tree tree) nodes in
+    rw first (by_test (nat_lt (data_third geom) (data_of_tree tree)) (NoSpace Data (data_of_tree tree) (data_third geom)))
   where
     by_test : (b : Bool) (reply : Reply) → first_some (then_some b reply ∷ []) ≡ then_some b reply
     by_test true reply = refl
     by_test false reply = refl
 
-pub space_by_nodes : (extent : Extent) (tree : Rows) → node_third extent < nodes_of_tree tree → space_refusal (limits_of extent) tree ≡ Some (NoSpace Node (nodes_of_tree tree) (node_third extent))
-space_by_nodes extent tree nodes =
-    let first : nat_lt (node_third extent) (nodes_of_tree tree) ≡ true = is_lt (node_third extent) (nodes_of_tree tree) nodes in
+pub space_by_nodes : (geom : ImageGeometry) (tree : Rows) → node_third geom < nodes_of_tree tree → space_refusal (limits_of geom) tree ≡ Some (NoSpace Node (nodes_of_tree tree) (node_third geom))
+space_by_nodes geom tree nodes =
+    let first : nat_lt (node_third geom) (nodes_of_tree tree) ≡ true = is_lt (node_third geom) (nodes_of_tree tree) nodes in
     rw first refl
 
-module _ (extent : Extent) (geometry : IsGeometry extent) (tree : Rows) (flat : IsFlat extent tree) where
+module _ (geom : ImageGeometry) (geometry : IsGeometry geom) (tree : Rows) (flat : IsFlat geom tree) where
   absent : (ino : ℕ) → map.len tree + ROOT ≤ ino → map.get tree ino ≡ None
   absent ino past = by_row (map.get tree ino) refl
     where
@@ -121,17 +121,17 @@ module _ (extent : Extent) (geometry : IsGeometry extent) (tree : Rows) (flat : 
   past_all : (len third nids : ℕ) → len ≤ third → 3 * third + 4 ≤ nids → len + ROOT ≤ nids
   past_all len third nids fits large = omega (arith, fits, large)
 
-  limit_free : map.get tree (nid_limit extent) ≡ None
-  limit_free = absent (nid_limit extent) (past_all (map.len tree) (node_third extent) (nid_limit extent) flat.fits geometry.nids)
+  limit_free : map.get tree (nid_limit geom) ≡ None
+  limit_free = absent (nid_limit geom) (past_all (map.len tree) (node_third geom) (nid_limit geom) flat.fits geometry.nids)
 
-  module _ (path : List (List ℕ)) (none : refusal (limits_of extent) tree (Create path) ≡ None) where
+  module _ (path : List (List ℕ)) (none : refusal (limits_of geom) tree (Create path) ≡ None) where
     in_root : (up : Row) × (walk_parent tree path ≡ Ok up) × (up.ino ≡ ROOT)
     in_root =
-        let walks = (passed (limits_of extent) tree (Create path) none).walks in
+        let walks = (passed (limits_of geom) tree (Create path) none).walks in
         let end = directory_ok (walk tree (parent_path path)) walks in
         let up : Row = end.0 in
         let led : walk_parent tree path ≡ Ok up = ap to_directory end.1 ∙ ap (λ (kind : Kind). if is_directory kind then Ok up else Err NotDir) end.2 in
-        (up, led, only_root tree (files_of extent geometry tree flat) up (walk_ends FILE_SIZE tree flat.good (parent_path path) up end.1).there end.2)
+        (up, led, only_root tree (files_of geom geometry tree flat) up (walk_ends FILE_SIZE tree flat.good (parent_path path) up end.1).there end.2)
 
     created : (up : Row) (ino directory : ℕ) → walk_parent tree path ≡ Ok up → up.ino ≡ directory → effect tree (Create path) ino ≡ map.insert tree ino (new_row Regular ino directory (last_name path))
     created up ino directory led is = rw (led, is) refl
@@ -149,8 +149,8 @@ module _ (extent : Extent) (geometry : IsGeometry extent) (tree : Rows) (flat : 
 
       pub files_grown : HasRootFiles (with_file tree ino (last_name path))
       files_grown = record {
-        good = subst (IsGoodTree FILE_SIZE) (grown_is ino) (effect_good (limits_of extent) tree flat.good (Create path) ino (λ _. free) (passed (limits_of extent) tree (Create path) none));
-        few = (let small = node_third_small extent geometry in let fits = flat.fits in let len = length-grown in omega (arith, small, fits, len));
+        good = subst (IsGoodTree FILE_SIZE) (grown_is ino) (effect_good (limits_of geom) tree flat.good (Create path) ino (λ _. free) (passed (limits_of geom) tree (Create path) none));
+        few = (let small = node_third_small geom geometry in let fits = flat.fits in let len = length-grown in omega (arith, small, fits, len));
         files = λ other row there apart. files_now other row (put_or_other tree (new_row Regular ino ROOT (last_name path)) other row there) apart;
       }
 
@@ -161,21 +161,21 @@ module _ (extent : Extent) (geometry : IsGeometry extent) (tree : Rows) (flat : 
     next = map.len tree + ROOT
 
     -- the refusal of a file more for want of space is that of the tree with the next number
-    space_next : space_refusal (limits_of extent) (grown tree path (nid_limit extent)) ≡ space_refusal (limits_of extent) (with_file tree next (last_name path))
-    space_next = same_space (limits_of extent) tree (Create path) (nid_limit extent) next flat.good limit_free next_free ∙ ap (space_refusal (limits_of extent)) (grown_is next)
+    space_next : space_refusal (limits_of geom) (grown tree path (nid_limit geom)) ≡ space_refusal (limits_of geom) (with_file tree next (last_name path))
+    space_next = same_space (limits_of geom) tree (Create path) (nid_limit geom) next flat.good limit_free next_free ∙ ap (space_refusal (limits_of geom)) (grown_is next)
 
-    pub nodes_spent : node_third extent < map.len tree + 1 → space_refusal (limits_of extent) (grown tree path (nid_limit extent)) ≡ Some (NoSpace Node (map.len tree + 1) (node_third extent))
+    pub nodes_spent : node_third geom < map.len tree + 1 → space_refusal (limits_of geom) (grown tree path (nid_limit geom)) ≡ Some (NoSpace Node (map.len tree + 1) (node_third geom))
     nodes_spent full =
         let nodes = nodes_grown next next_free in
-        space_next ∙ space_by_nodes extent (with_file tree next (last_name path)) (omega (arith, nodes, full)) ∙ ap (λ n. Some (NoSpace Node n (node_third extent))) nodes
+        space_next ∙ space_by_nodes geom (with_file tree next (last_name path)) (omega (arith, nodes, full)) ∙ ap (λ n. Some (NoSpace Node n (node_third geom))) nodes
 
-    pub space_told : map.len tree + 1 ≤ node_third extent → space_refusal (limits_of extent) (grown tree path (nid_limit extent)) ≡ told_beyond Data (data_of_tree (with_file tree next (last_name path))) (data_third extent)
+    pub space_told : map.len tree + 1 ≤ node_third geom → space_refusal (limits_of geom) (grown tree path (nid_limit geom)) ≡ told_beyond Data (data_of_tree (with_file tree next (last_name path))) (data_third geom)
     space_told fits =
         let nodes = nodes_grown next next_free in
-        space_next ∙ space_by_data extent (with_file tree next (last_name path)) (omega (arith, nodes, fits))
+        space_next ∙ space_by_data geom (with_file tree next (last_name path)) (omega (arith, nodes, fits))
 
     -- a file more, where each zone has room
-    module _ (fits : map.len tree + 1 ≤ node_third extent) (room : told_beyond Data (data_of_tree (with_file tree next (last_name path))) (data_third extent) ≡ None) where
+    module _ (fits : map.len tree + 1 ≤ node_third geom) (room : told_beyond Data (data_of_tree (with_file tree next (last_name path))) (data_third geom) ≡ None) where
       dense_grown : (ino : ℕ) (row : Row) → ((ino ≡ next) × (row ≡ new_row Regular next ROOT (last_name path))) ⊎ ((ino ≢ next) × (map.get tree ino ≡ Some row))
           → (ROOT ≤ ino) × (ino < map.len (with_file tree next (last_name path)) + ROOT)
       dense_grown ino row (inl same) = let at : ino ≡ map.len tree + 3 = same.0 in let len = length-grown next next_free in (omega (arith, at), omega (arith, at, len))
@@ -186,16 +186,16 @@ module _ (extent : Extent) (geometry : IsGeometry extent) (tree : Rows) (flat : 
           let len = length-grown next next_free in
           (omega (arith, low), omega (arith, high, len))
 
-      pub flat_grown : IsFlat extent (with_file tree next (last_name path))
+      pub flat_grown : IsFlat geom (with_file tree next (last_name path))
       flat_grown = record {
         good = (files_grown next next_free).good;
         fits = (let len = length-grown next next_free in omega (arith, len, fits));
-        room = none_within Data (data_of_tree (with_file tree next (last_name path))) (data_third extent) room;
+        room = none_within Data (data_of_tree (with_file tree next (last_name path))) (data_third geom) room;
         dense = λ ino row there. dense_grown ino row (put_or_other tree (new_row Regular next ROOT (last_name path)) ino row there);
         files = (files_grown next next_free).files;
       }
 
-      pub added : (new : Rows) (ino : ℕ) → ino ≡ next → new ≡ with_file tree next (last_name path) → IsAdded extent tree new path ino
+      pub added : (new : Rows) (ino : ℕ) → ino ≡ next → new ≡ with_file tree next (last_name path) → IsAdded geom tree new path ino
       added new ino is now = record {
         none = none;
         space = space_told fits ∙ room;

@@ -9,7 +9,7 @@ use Rattle.std.specs.Cmp.Lexicographic.{slice_cmp, nat_list_cmp_total}
 use Rattle.std.specs.FinMap as map
 use Rattle.std.specs.FinSet as set
 use Rattle.std.proofs.lemmas.List.Elements.{All-from_recursion}
-use Rattle.f2_format.specs.Geometry.{Extent, IsGeometry, data_third}
+use Rattle.f2_format.specs.Geometry.{ImageGeometry, IsGeometry, data_third}
 use Rattle.f2_format.specs.Packing.{blocks_of_names}
 use Rattle.f2_model.specs.Content.{end_of, put_pieces, raised_size}
 use Rattle.f2_model.specs.Count.{dentry_blocks, data_of_tree}
@@ -115,9 +115,9 @@ ends_list pieces none = within pieces (raised_ends pieces 0 FILE_SIZE (raised_wi
     within [] all = tt
     within (piece ∷ pieces) all = (small (end_of piece) all.0, within pieces all.1)
 
-module _ (extent : Extent) (geometry : IsGeometry extent) (tree : Rows) (flat : IsFlat extent tree) (path : List (List ℕ)) (pieces : List Piece) (none : refusal (limits_of extent) tree (Write path pieces) ≡ None) where
+module _ (geom : ImageGeometry) (geometry : IsGeometry geom) (tree : Rows) (flat : IsFlat geom tree) (path : List (List ℕ)) (pieces : List Piece) (none : refusal (limits_of geom) tree (Write path pieces) ≡ None) where
   pub ends_within : EndWithin pieces
-  ends_within = All-from_recursion (λ piece. end_of piece ≤ MOST_SIZE) pieces (ends_list pieces (passed (limits_of extent) tree (Write path pieces) none).fits)
+  ends_within = All-from_recursion (λ piece. end_of piece ≤ MOST_SIZE) pieces (ends_list pieces (passed (limits_of geom) tree (Write path pieces) none).fits)
 
   module _ (row : Row) (led : walk tree path ≡ Ok row) where
     pub row_there : map.get tree row.ino ≡ Some row
@@ -127,7 +127,7 @@ module _ (extent : Extent) (geometry : IsGeometry extent) (tree : Rows) (flat : 
     written_is ino = ap (λ end. on_row tree end (λ (one : Row). map.insert tree one.ino (record one { size = raised_size one.size pieces; pages = put_pieces one.pages pieces }))) led
 
     pub good_written : IsGoodTree FILE_SIZE (with_pieces tree row pieces)
-    good_written = subst (IsGoodTree FILE_SIZE) (written_is 0) (effect_good (limits_of extent) tree flat.good (Write path pieces) 0 (λ adds. absurd (false_true adds)) (passed (limits_of extent) tree (Write path pieces) none))
+    good_written = subst (IsGoodTree FILE_SIZE) (written_is 0) (effect_good (limits_of geom) tree flat.good (Write path pieces) 0 (λ adds. absurd (false_true adds)) (passed (limits_of geom) tree (Write path pieces) none))
       where
         false_true : false ≡ true → ⊥
         false_true e = cc
@@ -139,7 +139,7 @@ module _ (extent : Extent) (geometry : IsGeometry extent) (tree : Rows) (flat : 
     pub files_written : HasRootFiles (with_pieces tree row pieces)
     files_written = record {
       good = good_written;
-      few = (let few = (files_of extent geometry tree flat).few in let len = length-written tree row row_there pieces in omega (arith, few, len));
+      few = (let few = (files_of geom geometry tree flat).few in let len = length-written tree row row_there pieces in omega (arith, few, len));
       files = λ other one there apart. files_now other one (put_or_other tree (row_with row pieces) other one there) apart;
     }
 
@@ -147,27 +147,27 @@ module _ (extent : Extent) (geometry : IsGeometry extent) (tree : Rows) (flat : 
       data_written : data_of_tree (with_pieces tree row pieces) ≡ data_of_tree tree + more
       data_written =
           let after = data_of (with_pieces tree row pieces) files_written in
-          let before = data_of tree (files_of extent geometry tree flat) in
+          let before = data_of tree (files_of geom geometry tree flat) in
           let blocks = blocks_stay tree row row_there pieces ROOT in
           let pages = pages_more tree row row_there pieces more grows in
           omega (arith, after, before, blocks, pages)
 
-      pub space_written : space_refusal (limits_of extent) (with_pieces tree row pieces) ≡ told_beyond Data (data_of_tree tree + more) (data_third extent)
+      pub space_written : space_refusal (limits_of geom) (with_pieces tree row pieces) ≡ told_beyond Data (data_of_tree tree + more) (data_third geom)
       space_written =
           let nodes = nodes_of (with_pieces tree row pieces) files_written in
           let len = length-written tree row row_there pieces in
           let fits = flat.fits in
-          space_by_data extent (with_pieces tree row pieces) (omega (arith, nodes, len, fits)) ∙ ap (λ need. told_beyond Data need (data_third extent)) data_written
+          space_by_data geom (with_pieces tree row pieces) (omega (arith, nodes, len, fits)) ∙ ap (λ need. told_beyond Data need (data_third geom)) data_written
 
       -- the refusal of the tree after it
-      pub space_told : (ino : ℕ) → space_refusal (limits_of extent) (effect tree (Write path pieces) ino) ≡ told_beyond Data (data_of_tree tree + more) (data_third extent)
-      space_told ino = ap (λ after. space_refusal (limits_of extent) after) (written_is ino) ∙ space_written
+      pub space_told : (ino : ℕ) → space_refusal (limits_of geom) (effect tree (Write path pieces) ino) ≡ told_beyond Data (data_of_tree tree + more) (data_third geom)
+      space_told ino = ap (λ after. space_refusal (limits_of geom) after) (written_is ino) ∙ space_written
 
-      pub flat_written : told_beyond Data (data_of_tree tree + more) (data_third extent) ≡ None → IsFlat extent (with_pieces tree row pieces)
+      pub flat_written : told_beyond Data (data_of_tree tree + more) (data_third geom) ≡ None → IsFlat geom (with_pieces tree row pieces)
       flat_written room = record {
         good = good_written;
         fits = (let len = length-written tree row row_there pieces in let fits = flat.fits in omega (arith, len, fits));
-        room = (let within = none_within Data (data_of_tree tree + more) (data_third extent) room in let taken = data_written in omega (arith, within, taken));
+        room = (let within = none_within Data (data_of_tree tree + more) (data_third geom) room in let taken = data_written in omega (arith, within, taken));
         dense = λ ino one there. dense ino one (put_or_other tree (row_with row pieces) ino one there);
         files = files_written.files;
       }
@@ -181,56 +181,56 @@ module _ (extent : Extent) (geometry : IsGeometry extent) (tree : Rows) (flat : 
 
 -- What a write comes to, step by step.
 
-module _ (extent : Extent) (geometry : IsGeometry extent) (tree : Rows) (flat : IsFlat extent tree) (path : List (List ℕ)) (pieces : List Piece) (row : Row) (finds : FindsFile extent tree path pieces (Ok row)) where
+module _ (geom : ImageGeometry) (geometry : IsGeometry geom) (tree : Rows) (flat : IsFlat geom tree) (path : List (List ℕ)) (pieces : List Piece) (row : Row) (finds : FindsFile geom tree path pieces (Ok row)) where
   pub pieces_within : EndWithin pieces
-  pieces_within = ends_within extent geometry tree flat path pieces finds.0
+  pieces_within = ends_within geom geometry tree flat path pieces finds.0
 
   pub takes : (inside : Rows) (fresh items : List ℕ) → inside ≡ tree → fresh ≡ items → items ≡ fresh_pages row.pages pieces → TakesPieces inside row.ino pieces fresh row
   takes inside fresh items inside_is fresh_is items_is = record {
-    there = ap (λ (t : Rows). map.get t row.ino) inside_is ∙ row_there extent geometry tree flat path pieces finds.0 row finds.1;
+    there = ap (λ (t : Rows). map.get t row.ino) inside_is ∙ row_there geom geometry tree flat path pieces finds.0 row finds.1;
     own = refl;
     ends = pieces_within;
     brought = fresh_is ∙ items_is;
   }
 
-  module _ (more limit count : ℕ) (grows : map.len (put_pieces row.pages pieces) ≡ map.len row.pages + count) (count_is : more ≡ count) (limit_is : limit ≡ data_third extent) (inside : Rows) (inside_is : inside ≡ tree) (told : Option Reply) (told_is : told ≡ told_beyond Data (data_of_tree inside + more) limit) where
+  module _ (more limit count : ℕ) (grows : map.len (put_pieces row.pages pieces) ≡ map.len row.pages + count) (count_is : more ≡ count) (limit_is : limit ≡ data_third geom) (inside : Rows) (inside_is : inside ≡ tree) (told : Option Reply) (told_is : told ≡ told_beyond Data (data_of_tree inside + more) limit) where
     grown : map.len (put_pieces row.pages pieces) ≡ map.len row.pages + more
     grown = grows ∙ ap (λ n. map.len row.pages + n) (sym count_is)
 
-    due : told ≡ told_beyond Data (data_of_tree tree + more) (data_third extent)
+    due : told ≡ told_beyond Data (data_of_tree tree + more) (data_third geom)
     due = told_is ∙ (λ i. told_beyond Data (data_of_tree (inside_is i) + more) (limit_is i))
 
-    space : space_refusal (limits_of extent) (effect tree (Write path pieces) (limits_of extent).nids) ≡ told
-    space = space_told extent geometry tree flat path pieces finds.0 row finds.1 more grown (limits_of extent).nids ∙ sym due
+    space : space_refusal (limits_of geom) (effect tree (Write path pieces) (limits_of geom).nids) ≡ told
+    space = space_told geom geometry tree flat path pieces finds.0 row finds.1 more grown (limits_of geom).nids ∙ sym due
 
     pub write_out : {X : Type 0} (result : Result X Reply) (came : Reply) → IsErrAnd result (λ e. e ≡ came) → (came ≡ Memory) ⊎ (told ≡ Some came)
-        → IfErr result (λ refused. (refused ≡ Memory) ⊎ IsRefused extent tree (Write path pieces) refused)
-    write_out result came is why = passed_on result came (λ refused. (refused ≡ Memory) ⊎ IsRefused extent tree (Write path pieces) refused) is (elim why [
+        → IfErr result (λ refused. (refused ≡ Memory) ⊎ IsRefused geom tree (Write path pieces) refused)
+    write_out result came is why = passed_on result came (λ refused. (refused ≡ Memory) ⊎ IsRefused geom tree (Write path pieces) refused) is (elim why [
       | inl memory ↦ inl memory
       | inr some ↦ inr (inr (finds.0, space ∙ some))
     ])
 
-    pub write_done : (new : Rows) → told ≡ None → new ≡ with_pieces tree row pieces → IsWritten extent tree new path pieces
+    pub write_done : (new : Rows) → told ≡ None → new ≡ with_pieces tree row pieces → IsWritten geom tree new path pieces
     write_done new none is = record {
       none = finds.0;
       space = space ∙ none;
-      tree = is ∙ sym (written_is extent geometry tree flat path pieces finds.0 row finds.1 (limits_of extent).nids);
+      tree = is ∙ sym (written_is geom geometry tree flat path pieces finds.0 row finds.1 (limits_of geom).nids);
     }
 
-    pub write_flat : (new : Rows) → told ≡ None → new ≡ with_pieces tree row pieces → IsFlat extent new
-    write_flat new none is = subst (IsFlat extent) (sym is) (flat_written extent geometry tree flat path pieces finds.0 row finds.1 more grown (sym due ∙ none))
+    pub write_flat : (new : Rows) → told ≡ None → new ≡ with_pieces tree row pieces → IsFlat geom new
+    write_flat new none is = subst (IsFlat geom) (sym is) (flat_written geom geometry tree flat path pieces finds.0 row finds.1 more grown (sym due ∙ none))
 
     -- so many pages fit a count
-    pub write_few : (counts : Counts) → AreCounts inside counts → told ≡ None → counts.pages + more ≤ data_third extent
+    pub write_few : (counts : Counts) → AreCounts inside counts → told ≡ None → counts.pages + more ≤ data_third geom
     write_few counts are none =
-        let within = none_within Data (data_of_tree tree + more) (data_third extent) (sym due ∙ none) in
-        let taken = data_of tree (files_of extent geometry tree flat) in
+        let within = none_within Data (data_of_tree tree + more) (data_third geom) (sym due ∙ none) in
+        let taken = data_of tree (files_of geom geometry tree flat) in
         let pages : counts.pages ≡ pages_of_tree tree = are.pages ∙ ap pages_of_tree inside_is in
         omega (arith, within, taken, pages)
 
     pub write_kept : (new : Rows) (names : Entries) (counts : Counts) → IsKept inside names counts → new ≡ with_pieces tree row pieces → IsKept new names (record { slots = counts.slots; pages = counts.pages + more })
     write_kept new names counts kept is =
-        let there = row_there extent geometry tree flat path pieces finds.0 row finds.1 in
+        let there = row_there geom geometry tree flat path pieces finds.0 row finds.1 in
         let before : IsKept tree names counts = subst (λ t. IsKept t names counts) inside_is kept in
         subst (λ t. IsKept t names (record { slots = counts.slots; pages = counts.pages + more })) (sym is)
         (record { bound = names_written tree row there pieces names before.bound; counted = counts_written tree row there pieces counts more grown before.counted })

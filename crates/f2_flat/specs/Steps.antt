@@ -2,7 +2,7 @@
 use Rattle.std.specs.Prelude.{◌≡◌, ◌⊎◌, ℕ, List, Option, Some, None, Result, Ok, MatchResult, nat_lt}
 use Rattle.std.specs.Bool.{then_some}
 use Rattle.std.specs.FinMap as map
-use Rattle.f2_format.specs.Geometry.{Extent}
+use Rattle.f2_format.specs.Geometry.{ImageGeometry}
 use Rattle.f2_model.specs.Content.{put_pieces, raised_size}
 use Rattle.f2_model.specs.Count.{data_of_tree}
 use Rattle.f2_model.specs.Tree.{Rows, ROOT, walk, last_name}
@@ -28,16 +28,16 @@ abbrev pub IsGranted : {T : Type 0} → Option Reply → Result T Reply → Type
 IsGranted told result = MatchResult result (λ _. told ≡ None) (λ refused. (refused ≡ Memory) ⊎ (told ≡ Some refused))
 
 -- a path has a place for a file, whose name this is; or this refusal is the first
-abbrev pub MakesPlace : Extent → Rows → List (List ℕ) → Result (List ℕ) Reply → Type 0
-MakesPlace extent tree path result = MatchResult result
-    (λ name. (refusal (limits_of extent) tree (Create path) ≡ None) × (name ≡ last_name path))
-    (λ refused. refusal (limits_of extent) tree (Create path) ≡ Some refused)
+abbrev pub MakesPlace : ImageGeometry → Rows → List (List ℕ) → Result (List ℕ) Reply → Type 0
+MakesPlace geom tree path result = MatchResult result
+    (λ name. (refusal (limits_of geom) tree (Create path) ≡ None) × (name ≡ last_name path))
+    (λ refused. refusal (limits_of geom) tree (Create path) ≡ Some refused)
 
 -- a path leads to this file and pieces may be put into it; or this refusal is the first
-abbrev pub FindsFile : Extent → Rows → List (List ℕ) → List Piece → Result Row Reply → Type 0
-FindsFile extent tree path pieces result = MatchResult result
-    (λ row. (refusal (limits_of extent) tree (Write path pieces) ≡ None) × (walk tree path ≡ Ok row))
-    (λ refused. refusal (limits_of extent) tree (Write path pieces) ≡ Some refused)
+abbrev pub FindsFile : ImageGeometry → Rows → List (List ℕ) → List Piece → Result Row Reply → Type 0
+FindsFile geom tree path pieces result = MatchResult result
+    (λ row. (refusal (limits_of geom) tree (Write path pieces) ≡ None) × (walk tree path ≡ Ok row))
+    (λ refused. refusal (limits_of geom) tree (Write path pieces) ≡ Some refused)
 
 -- a tree with an empty file more in the root
 abbrev pub with_file : Rows → ℕ → List ℕ → Rows

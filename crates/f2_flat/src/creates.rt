@@ -1,7 +1,7 @@
 //! Adding a file.
 ghost use Rattle.std.specs.Prelude.{◌≡◌, ◌+◌, ◌<◌, ◌^◌, None, Ok, Err, OnOk, OnErr, MatchResult};
 ghost use Rattle.std.specs.FinMap as map;
-ghost use Rattle.f2_format.specs.Geometry.{Extent};
+ghost use Rattle.f2_format.specs.Geometry.{ImageGeometry};
 ghost use Rattle.f2_model.specs.Call.{new_row};
 ghost use Rattle.f2_model.specs.Tree.{ROOT as root};
 ghost use Rattle.f2_model.specs.declared.replies.Space.TheVariants as space;
@@ -20,7 +20,7 @@ use std::alloc::Global;
 pub(crate) fn place_for<'a>(tree: &Tree, names: &Dir, path: &'a Path) -> Result<&'a Name, Reply>
     requires files { HasRootFiles tree.now }
     requires names { BindsNames tree.now names.now }
-    ensures { (extent : Extent) → MatchResult result (λ name. MakesPlace extent tree.now path.now (Ok name.now)) (λ refused. MakesPlace extent tree.now path.now (Err refused)) }
+    ensures { (geom : ImageGeometry) → MatchResult result (λ name. MakesPlace geom tree.now path.now (Ok name.now)) (λ refused. MakesPlace geom tree.now path.now (Err refused)) }
 {
     if !path.is_good() {
         return Err(Reply::BadName);

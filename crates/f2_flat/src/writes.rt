@@ -2,7 +2,7 @@
 ghost use Rattle.std.specs.Prelude.{◌≡◌, MatchResult, Ok, Err, OnOk, OnErr, Some, nat_lt};
 ghost use Rattle.std.specs.List.{list_any};
 ghost use Rattle.std.specs.FinMap as map;
-ghost use Rattle.f2_format.specs.Geometry.{Extent};
+ghost use Rattle.f2_format.specs.Geometry.{ImageGeometry};
 ghost use Rattle.f2_model.specs.Content.{end_of};
 ghost use Rattle.f2_model.specs.declared.rows.Row as row;
 ghost use Rattle.f2_pieces.specs.Fresh.{fresh_pages};
@@ -34,7 +34,7 @@ pub(crate) fn file_for<'a>(
 ) -> Result<&'a Row, Reply>
     requires files { HasRootFiles tree.now }
     requires names { BindsNames tree.now names.now }
-    ensures { (extent : Extent) → MatchResult result (λ row. FindsFile extent tree.now path.now pieces.now (Ok row.now)) (λ refused. FindsFile extent tree.now path.now pieces.now (Err refused)) }
+    ensures { (geom : ImageGeometry) → MatchResult result (λ row. FindsFile geom tree.now path.now pieces.now (Ok row.now)) (λ refused. FindsFile geom tree.now path.now pieces.now (Err refused)) }
 {
     if !path.is_good() {
         return Err(Reply::BadName);

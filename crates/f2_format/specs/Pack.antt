@@ -5,7 +5,7 @@
 use Rattle.std.specs.Prelude.{◌≡◌, ℕ, ◌+◌, ◌*◌, ◌%◌, ◌^◌, ◌≤◌, ◌==◌, Bool, if◌then◌else◌, List, [], ◌∷◌, slice_range, IsTrue}
 use Rattle.std.specs.Int.{bit_at}
 use Rattle.f2_format.specs.Bytes.{BLOCK_BYTES, number_at, number_bytes, with_bytes, with_fields, zeros}
-use Rattle.f2_format.specs.Geometry.{Extent, is_in_node}
+use Rattle.f2_format.specs.Geometry.{ImageGeometry, is_in_node}
 use Rattle.f2_format.specs.Nat.{BITMAP_BYTES}
 use Rattle.f2_format.specs.Seal.{SEAL_START, seal_of, stored_seal}
 
@@ -86,9 +86,9 @@ abbrev pub recovery_version_of : HeadFields → ℕ
 recovery_version_of head = if is_newer_format head then (head.version + 2 ^ 32 * written_seal head) % 2 ^ 64 else head.version
 
 -- a pack with this head and this tail counts in an image of this size
-pub record IsPack (extent : Extent) (head tail : List ℕ) : Type 0 where
+pub record IsPack (geom : ImageGeometry) (head tail : List ℕ) : Type 0 where
   pub seal : stored_seal head ≡ seal_of head
   pub same : tail ≡ head
   pub version : 1 ≤ (head_of head).version
-  pub nat : (head_of head).nat ≡ extent.nat
-  pub log_start : IsTrue (is_in_node extent (head_of head).log_start)
+  pub nat : (head_of head).nat ≡ geom.nat
+  pub log_start : IsTrue (is_in_node geom (head_of head).log_start)

@@ -3,7 +3,7 @@
 -- this project's own. Bytes that no field covers are written as 0 and not looked at.
 use Rattle.std.specs.Prelude.{◌≤◌, ◌≡◌, ℕ, List, [], ◌∷◌}
 use Rattle.f2_format.specs.Bytes.{BLOCK_BYTES, number_at, number_bytes, with_fields, zeros}
-use Rattle.f2_format.specs.Geometry.{Extent, IsGeometry}
+use Rattle.f2_format.specs.Geometry.{ImageGeometry, IsGeometry}
 
 -- F2FS_SUPER_MAGIC
 abbrev pub MAGIC : ℕ
@@ -30,22 +30,22 @@ abbrev pub SUPER_NAT : ℕ
 SUPER_NAT = 1040
 
 -- the sizes that a superblock tells
-abbrev pub super_extent : List ℕ → Extent
-super_extent block = record { blocks = number_at 4 block SUPER_BLOCKS; nat = number_at 4 block SUPER_NAT }
+abbrev pub super_geom : List ℕ → ImageGeometry
+super_geom block = record { blocks = number_at 4 block SUPER_BLOCKS; nat = number_at 4 block SUPER_NAT }
 
 -- a superblock of an image that a device with so many blocks holds
 pub record IsSuper (block : List ℕ) (device : ℕ) : Type 0 where
   pub magic : number_at 4 block SUPER_MAGIC ≡ MAGIC
   pub tag : number_at 8 block SUPER_TAG ≡ TAG
-  pub geometry : IsGeometry (super_extent block)
-  pub within : (super_extent block).blocks ≤ device
+  pub geometry : IsGeometry (super_geom block)
+  pub within : (super_geom block).blocks ≤ device
 
 -- the superblock of an image of these sizes
-abbrev pub super_block : Extent → List ℕ
-super_block extent =
+abbrev pub super_block : ImageGeometry → List ℕ
+super_block geom =
     with_fields (zeros BLOCK_BYTES)
     ((SUPER_MAGIC, number_bytes 4 MAGIC)
     ∷ (SUPER_TAG, number_bytes 8 TAG)
-    ∷ (SUPER_BLOCKS, number_bytes 4 extent.blocks)
-    ∷ (SUPER_NAT, number_bytes 4 extent.nat)
+    ∷ (SUPER_BLOCKS, number_bytes 4 geom.blocks)
+    ∷ (SUPER_NAT, number_bytes 4 geom.nat)
     ∷ [])

@@ -10,7 +10,7 @@ use Rattle.std.specs.FinMap.Entries.{below_all}
 use Rattle.std.proofs.lemmas.Bool.{eqb-true}
 use Rattle.std.proofs.lemmas.List.{get_or_default}
 use Rattle.std.proofs.lemmas.List.Elements.{All-map}
-use Rattle.f2_format.specs.Geometry.{Extent, data_third, data_start, is_in_data}
+use Rattle.f2_format.specs.Geometry.{ImageGeometry, data_third, data_start, is_in_data}
 use Rattle.f2_image.specs.Images.{Image}
 use Rattle.f2_image.specs.Packs.{Checkpoint}
 use Rattle.f2_image.specs.Reached.{IsMarkedPage}
@@ -36,10 +36,10 @@ both_true false true e = (refl, refl)
 both_true false false e = absurd (cc)
 both_true true b e = absurd (cc)
 
-zone_within : (extent : Extent) (at : ℕ) → is_in_data extent at ≡ true → at < extent.blocks
-zone_within extent at e =
-    let both = both_true (nat_lt at (data_start extent)) (nat_lt at (data_start extent + 3 * data_third extent)) e in
-    in_blocks extent.blocks extent.nat at (not_below at (data_start extent) both.0) (is_below at (data_start extent + 3 * data_third extent) both.1)
+zone_within : (geom : ImageGeometry) (at : ℕ) → is_in_data geom at ≡ true → at < geom.blocks
+zone_within geom at e =
+    let both = both_true (nat_lt at (data_start geom)) (nat_lt at (data_start geom + 3 * data_third geom)) e in
+    in_blocks geom.blocks geom.nat at (not_below at (data_start geom) both.0) (is_below at (data_start geom + 3 * data_third geom) both.1)
   where
     not_below : (m n : ℕ) → nat_lt m n ≡ false → n ≤ m
     not_below m n e = grind (arith, e)
@@ -80,13 +80,13 @@ each_listed : (blocks : ℕ) (pages : FinMap nat_cmp ℕ) → ((page at : ℕ) �
 each_listed blocks pages below = All-map (λ (x : PageAt). x.at < blocks) (λ (entry : ℕ × ℕ). record { page = entry.0; at = entry.1 }) (map.entries pages)
     (λ k d small. let entry : ℕ × ℕ = get_or (map.entries pages) k d in below entry.0 entry.1 (map.get-entries pages entry.0 ∙ found_at (map.entries pages) k d (map.entries_sorted pages) small))
 
-module _ (image : Image) (point : Checkpoint) (walk : Walk) (rolls : Rolls) (base : Rows) (marks : List Mark) (is : IsTree image point walk rolls base marks) where
+module _ (image : Image) (ckpt : Checkpoint) (walk : Walk) (rolls : Rolls) (base : Rows) (marks : List Mark) (is : IsTree image ckpt walk rolls base marks) where
   -- the pages of a file that was marked
-  pub roll_below : (ino : ℕ) (roll : Roll) → map.get rolls ino ≡ Some roll → AreBelow point.extent.blocks (listed_of roll.pages)
-  roll_below ino roll there = each_listed point.extent.blocks roll.pages (λ page at has.
-      let from = roll_from image point walk rolls base marks is ino roll there in
+  pub roll_below : (ino : ℕ) (roll : Roll) → map.get rolls ino ≡ Some roll → AreBelow ckpt.geom.blocks (listed_of roll.pages)
+  roll_below ino roll there = each_listed ckpt.geom.blocks roll.pages (λ page at has.
+      let from = roll_from image ckpt walk rolls base marks is ino roll there in
       let within = from.at.within page at has in
-      let marked : IsMarkedPage image point ino page at = record {
+      let marked : IsMarkedPage image ckpt ino page at = record {
         place = from.place;
         inode = _;
         marked = from.marked_at;
@@ -95,12 +95,12 @@ module _ (image : Image) (point : Checkpoint) (walk : Walk) (rolls : Rolls) (bas
         address = sym (from.at.pages page within) ∙ ap (λ o. unwrap_or o 0) has;
         there = from.at.there page at has;
       } in
-      zone_within point.extent at (is.pages.zones ino page at marked))
+      zone_within ckpt.geom at (is.pages.zones ino page at marked))
 
   -- the pages of a file of the base
-  pub base_below : (ino : ℕ) (old : BaseRow) → map.get walk.rows ino ≡ Some old → AreBelow point.extent.blocks old.file.nodes.list.items
+  pub base_below : (ino : ℕ) (old : BaseRow) → map.get walk.rows ino ≡ Some old → AreBelow ckpt.geom.blocks old.file.nodes.list.items
   base_below ino old there = λ k d small.
       let list = old.file.nodes.list.items in
       let x : PageAt = get_or list k d in
-      let has = (list_of_row image point walk is.read ino old there).only x (k, small, get_or_default list k x d small) in
-      zone_within point.extent x.at ((right_nodes image point walk is.read).pages ino x.page x.at (page_of_base image point walk is.read ino old there x.page x.at has))
+      let has = (list_of_row image ckpt walk is.read ino old there).only x (k, small, get_or_default list k x d small) in
+      zone_within ckpt.geom x.at ((right_nodes image ckpt walk is.read).pages ino x.page x.at (page_of_base image ckpt walk is.read ino old there x.page x.at has))

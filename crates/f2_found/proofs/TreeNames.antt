@@ -49,19 +49,19 @@ regular_else : (kind : Kind) → ¬ (kind ≡ Directory) → kind ≡ Regular
 regular_else Regular other = refl
 regular_else Directory other = absurd (other refl)
 
-module _ (image : Image) (point : Checkpoint) (walk : Walk) (rolls : Rolls) (base : Rows) (marks : List Mark) (is : IsTree image point walk rolls base marks) where
+module _ (image : Image) (ckpt : Checkpoint) (walk : Walk) (rolls : Rolls) (base : Rows) (marks : List Mark) (is : IsTree image ckpt walk rolls base marks) where
   abbrev whole : Rows
-  whole = tree image point walk rolls base marks is
+  whole = tree image ckpt walk rolls base marks is
 
   -- the name that a new file's mark brings
   record IsBringing (ino : ℕ) (roll : Roll) : Type 0 where
     place : ℕ
-    brings : BringsName image point place ino roll.parent roll.name
+    brings : BringsName image ckpt place ino roll.parent roll.name
 
   bringing : (ino : ℕ) (roll : Roll) → IsNew rolls walk.rows ino roll → IsBringing ino roll
   bringing ino roll new =
-      let from = roll_from image point walk rolls base marks is ino roll new.there in
-      let block = block_in (chain image point) from.place in
+      let from = roll_from image ckpt walk rolls base marks is ino roll new.there in
+      let block = block_in (chain image ckpt) from.place in
       let named = subst (IsRollNamed block roll) new.no_row from.at.named in
       record {
         place = from.place;
@@ -69,18 +69,18 @@ module _ (image : Image) (point : Checkpoint) (walk : Walk) (rolls : Rolls) (bas
           block = block;
           marked = from.marked_at;
           own = from.own;
-          fresh = λ reached. let has = reached_row image point walk is.read ino reached in not_none has.row (sym new.no_row ∙ has.there);
+          fresh = λ reached. let has = reached_row image ckpt walk is.read ino reached in not_none has.row (sym new.no_row ∙ has.there);
           under = sym named.0;
           named = sym named.1;
         };
       }
 
   -- a directory whose names are known was walked
-  walked_of : (directory : ℕ) (entries : Entries) → map.get walk.names directory ≡ Some entries → AreNamesOf image point directory entries
+  walked_of : (directory : ℕ) (entries : Entries) → map.get walk.names directory ≡ Some entries → AreNamesOf image ckpt directory entries
   walked_of directory entries there =
       let done : set.contains is.read.walked.done directory ≡ true = sym (is.read.walked.to.others directory) ∙ ap (λ (o : Option Entries). is_some o) there in
       let walked = is.read.walked.to.walked directory done in
-      subst (AreNamesOf image point directory) (one_some walked.names entries (sym walked.known ∙ there)) walked.are
+      subst (AreNamesOf image ckpt directory) (one_some walked.names entries (sym walked.known ∙ there)) walked.are
 
   pub apart : AreApart rolls walk.rows walk.names
   apart = record {
@@ -89,7 +89,7 @@ module _ (image : Image) (point : Checkpoint) (walk : Walk) (rolls : Rolls) (bas
         let one = bringing ino a new in
         let two = bringing other b also in
         sym ((is.right.names one.place ino a.parent a.name one.brings).alone two.place other
-        (subst (λ d. BringsName image point two.place other d a.name) (sym up) (subst (BringsName image point two.place other b.parent) (sym same) two.brings)));
+        (subst (λ d. BringsName image ckpt two.place other d a.name) (sym up) (subst (BringsName image ckpt two.place other b.parent) (sym same) two.brings)));
   }
     where
       free : (ino : ℕ) (roll : Roll) (entries : Entries) → IsNew rolls walk.rows ino roll → map.get walk.names roll.parent ≡ Some entries → (o : Option (ℕ × Kind)) → map.get entries roll.name ≡ o → map.get entries roll.name ≡ None
@@ -110,23 +110,23 @@ module _ (image : Image) (point : Checkpoint) (walk : Walk) (rolls : Rolls) (bas
   -- a file of the base that was marked is no directory there
   marked_file : (ino : ℕ) (roll : Roll) (old : BaseRow) → map.get rolls ino ≡ Some roll → map.get walk.rows ino ≡ Some old → old.file.kind ≡ Regular
   marked_file ino roll old there row =
-      let from = roll_from image point walk rolls base marks is ino roll there in
-      let block = block_in (chain image point) from.place in
-      let file = (row_of image point walk is.read ino old row).file in
+      let from = roll_from image ckpt walk rolls base marks is ino roll there in
+      let block = block_in (chain image ckpt) from.place in
+      let file = (row_of image ckpt walk is.read ino old row).file in
       let mark = is.right.marks from.place block from.marked_at in
       regular_else old.file.kind (λ directory.
-      mark.file (subst (IsDirectoryOf image point) (sym from.own) (file.reached, (file.inode, subst (λ k. IsInode image point ino k file.inode) directory file.is))))
+      mark.file (subst (IsDirectoryOf image ckpt) (sym from.own) (file.reached, (file.inode, subst (λ k. IsInode image ckpt ino k file.inode) directory file.is))))
 
   kept : (ino : ℕ) (old : BaseRow) → map.get walk.rows ino ≡ Some old → IsKept ino old
-  kept ino old there = by (map.get whole ino) (map.get rolls ino) refl refl (subst (AreAlikeRolled image (map.get whole ino) (map.get rolls ino)) there (alike image point walk rolls base marks is ino))
+  kept ino old there = by (map.get whole ino) (map.get rolls ino) refl refl (subst (AreAlikeRolled image (map.get whole ino) (map.get rolls ino)) there (alike image ckpt walk rolls base marks is ino))
     where
       by : (row : Option Row) (roll : Option Roll) → map.get whole ino ≡ row → map.get rolls ino ≡ roll → AreAlikeRolled image row roll (Some old) → IsKept ino old
       by None None t r like = absurd like
       by None (Some roll) t r like = absurd like
       by (Some row) None t r like = record { row = row; there = t; parent = like.parent; named = like.named; kind = like.kind }
       by (Some row) (Some roll) t r like =
-          let from = roll_from image point walk rolls base marks is ino roll r in
-          let named = subst (IsRollNamed (block_in (chain image point) from.place) roll) there from.at.named in
+          let from = roll_from image ckpt walk rolls base marks is ino roll r in
+          let named = subst (IsRollNamed (block_in (chain image ckpt) from.place) roll) there from.at.named in
           record { row = row; there = t; parent = like.parent ∙ named.0; named = like.named ∙ named.1; kind = like.kind ∙ sym (marked_file ino roll old r there) }
 
   -- a new file stands in the tree where its mark says
@@ -136,7 +136,7 @@ module _ (image : Image) (point : Checkpoint) (walk : Walk) (rolls : Rolls) (bas
     like : IsRollLike image row roll
 
   added : (ino : ℕ) (roll : Roll) → map.get rolls ino ≡ Some roll → IsAdded ino roll
-  added ino roll there = by (map.get whole ino) refl (subst (λ o. AreAlikeRolled image (map.get whole ino) o (map.get walk.rows ino)) there (alike image point walk rolls base marks is ino))
+  added ino roll there = by (map.get whole ino) refl (subst (λ o. AreAlikeRolled image (map.get whole ino) o (map.get walk.rows ino)) there (alike image ckpt walk rolls base marks is ino))
     where
       by : (row : Option Row) → map.get whole ino ≡ row → AreAlikeRolled image row (Some roll) (map.get walk.rows ino) → IsAdded ino roll
       by None t like = absurd like
@@ -149,7 +149,7 @@ module _ (image : Image) (point : Checkpoint) (walk : Walk) (rolls : Rolls) (bas
     like : IsRollLike image row roll
 
   new_row : (ino : ℕ) (row : Row) → map.get whole ino ≡ Some row → map.get walk.rows ino ≡ None → IsNewRow ino row
-  new_row ino row there none = by (map.get rolls ino) refl (subst (λ o. AreAlikeRolled image o (map.get rolls ino) None) there (subst (AreAlikeRolled image (map.get whole ino) (map.get rolls ino)) none (alike image point walk rolls base marks is ino)))
+  new_row ino row there none = by (map.get rolls ino) refl (subst (λ o. AreAlikeRolled image o (map.get rolls ino) None) there (subst (AreAlikeRolled image (map.get whole ino) (map.get rolls ino)) none (alike image ckpt walk rolls base marks is ino)))
     where
       by : (roll : Option Roll) → map.get rolls ino ≡ roll → AreAlikeRolled image (Some row) roll None → IsNewRow ino row
       by None r like = absurd like
@@ -171,14 +171,14 @@ module _ (image : Image) (point : Checkpoint) (walk : Walk) (rolls : Rolls) (bas
           let same : one.row ≡ row = one_some one.row row (sym one.there ∙ there) in
           record { old = old; there = b; kind = sym one.kind ∙ ap (λ (r : Row). r.kind) same ∙ kind }
 
-  module _ (directory : ℕ) (old : IsOldDirectory directory) (entries names : Entries) (are : AreNamesOf image point directory entries) (to : AreNamedTo rolls walk.rows (nid_limit point.extent) directory entries names) where
+  module _ (directory : ℕ) (old : IsOldDirectory directory) (entries names : Entries) (are : AreNamesOf image ckpt directory entries) (to : AreNamedTo rolls walk.rows (nid_limit ckpt.geom) directory entries names) where
     -- a name of the base
     name_of_base : (name : List ℕ) (ino : ℕ) (kind : Kind) → map.get entries name ≡ Some (ino, kind) → StandsUnder whole directory name ino kind
     name_of_base name ino kind has =
         let dentry : Dentry = record { name = name; ino = ino; type = type_of kind } in
         let at = are.only name ino kind has in
-        let reached = (row_of image point walk is.read directory old.old old.there).file.reached in
-        let row = stands_by image point walk is.read.walked directory at.0 at.1 dentry reached at.2 in
+        let reached = (row_of image ckpt walk is.read directory old.old old.there).file.reached in
+        let row = stands_by image ckpt walk is.read.walked directory at.0 at.1 dentry reached at.2 in
         let one = kept ino row.row row.there in
         let least = row.is.least in
         record {
@@ -217,13 +217,13 @@ module _ (image : Image) (point : Checkpoint) (walk : Walk) (rolls : Rolls) (bas
         by : (own : Option BaseRow) → map.get walk.rows ino ≡ own → map.get names row.name ≡ Some (ino, row.kind)
         by None b =
             let one = new_row ino row there b in
-            ap (map.get names) one.like.named ∙ to.added ino one.roll (roll_within image point walk rolls base marks is ino one.roll one.new.there) one.new (sym one.like.parent ∙ up) ∙ ap (λ (k : Kind). Some (ino, k)) (sym one.like.kind)
+            ap (map.get names) one.like.named ∙ to.added ino one.roll (roll_within image ckpt walk rolls base marks is ino one.roll one.new.there) one.new (sym one.like.parent ∙ up) ∙ ap (λ (k : Kind). Some (ino, k)) (sym one.like.kind)
         by (Some own) b =
             let one = kept ino own b in
             let same : one.row ≡ row = one_some one.row row (sym one.there ∙ there) in
             let bound = is.read.walked.to.bound ino own b other in
             let parent : own.parent ≡ directory = sym one.parent ∙ ap (λ (r : Row). r.parent) same ∙ up in
-            let has = are.all bound.dentry (bound.page, bound.slot, subst (λ d. HasDentryAt image point d bound.page bound.slot bound.dentry) parent bound.has) in
+            let has = are.all bound.dentry (bound.page, bound.slot, subst (λ d. HasDentryAt image ckpt d bound.page bound.slot bound.dentry) parent bound.has) in
             let name : row.name ≡ bound.dentry.name = sym (ap (λ (r : Row). r.name) same) ∙ one.named ∙ bound.stands.named in
             let kind : has.0 ≡ row.kind = one_type has.0 own.file.kind (sym has.1.1 ∙ bound.stands.typed) ∙ sym one.kind ∙ ap (λ (r : Row). r.kind) same in
             to.kept row.name (ino, row.kind) (same_place entries row.name bound.dentry.name bound.dentry.ino ino has.0 row.kind name has.1.0 bound.own kind)
@@ -231,10 +231,10 @@ module _ (image : Image) (point : Checkpoint) (walk : Walk) (rolls : Rolls) (bas
     pub names_in : AreNamesIn whole directory names
     names_in = record { only = only; all = all }
 
-  module _ (names : Names) (to : AreAllNamedTo rolls walk.rows walk.names (nid_limit point.extent) (nid_limit point.extent) names) where
+  module _ (names : Names) (to : AreAllNamedTo rolls walk.rows walk.names (nid_limit ckpt.geom) (nid_limit ckpt.geom) names) where
     pub names_found : (ino : ℕ) (row : Row) → map.get whole ino ≡ Some row → row.kind ≡ Directory → AreKnownIn whole ino (map.get names ino)
     names_found ino row there kind =
         let old = old_directory ino row there kind in
         let walked = is.read.walked.to.walked ino (is.read.walked.all ino old.old old.there old.kind) in
-        let has = to ino walked.names (row_within image point walk rolls base marks is ino old.old old.there) walked.known in
+        let has = to ino walked.names (row_within image ckpt walk rolls base marks is ino old.old old.there) walked.known in
         subst (AreKnownIn whole ino) (sym has.there) (names_in ino old walked.names has.entries walked.are has.are)

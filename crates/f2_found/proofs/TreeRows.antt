@@ -32,34 +32,34 @@ use Rattle.f2_found.proofs.Trees.{IsTree, tree, alike, row_from, roll_from, roll
 not_both : Directory ≡ Regular → ⊥
 not_both e = cc
 
-module _ (image : Image) (point : Checkpoint) (walk : Walk) (rolls : Rolls) (base : Rows) (marks : List Mark) (is : IsTree image point walk rolls base marks) where
+module _ (image : Image) (ckpt : Checkpoint) (walk : Walk) (rolls : Rolls) (base : Rows) (marks : List Mark) (is : IsTree image ckpt walk rolls base marks) where
   -- a directory has neither size nor pages
-  empty_directory : (ino : ℕ) (row : Row) → map.get (tree image point walk rolls base marks is) ino ≡ Some row → row.kind ≡ Directory → (row.size ≡ 0) × (row.pages ≡ map.empty)
-  empty_directory ino row there directory = by (row_from image point walk rolls base marks is ino row there)
+  empty_directory : (ino : ℕ) (row : Row) → map.get (tree image ckpt walk rolls base marks is) ino ≡ Some row → row.kind ≡ Directory → (row.size ≡ 0) × (row.pages ≡ map.empty)
+  empty_directory ino row there directory = by (row_from image ckpt walk rolls base marks is ino row there)
     where
       by : (map.get base ino ≡ Some row) ⊎ ((row.ino ≡ ino) × (row.kind ≡ Regular)) → (row.size ≡ 0) × (row.pages ≡ map.empty)
-      by (inl old) = let at = is.is_base.rows ino row old in subst (λ k. HasContent image point at.inode k row) directory at.content
+      by (inl old) = let at = is.is_base.rows ino row old in subst (λ k. HasContent image ckpt at.inode k row) directory at.content
       by (inr file) = absurd (not_both (sym directory ∙ file.1))
 
-  of_roll : (ino : ℕ) (row : Row) (roll : Roll) (found : FoundRow) → map.get rolls ino ≡ Some roll → IsRollLike image row roll → IsOfRoll point.extent.blocks roll found → IsFoundRow image row found
+  of_roll : (ino : ℕ) (row : Row) (roll : Roll) (found : FoundRow) → map.get rolls ino ≡ Some roll → IsRollLike image row roll → IsOfRoll ckpt.geom.blocks roll found → IsFoundRow image row found
   of_roll ino row roll found there like made = record {
     kind = made.kind ∙ sym like.kind;
     size = made.size ∙ sym like.size;
     pages = of_map (block_at image) row.pages roll.pages like.pages
-        ∙ ap (λ (list : List PageAt). entries_at (block_at image) list) (sym (made.pages (listed_in_order roll.pages (roll_from image point walk rolls base marks is ino roll there).at.within) (roll_below image point walk rolls base marks is ino roll there)));
+        ∙ ap (λ (list : List PageAt). entries_at (block_at image) list) (sym (made.pages (listed_in_order roll.pages (roll_from image ckpt walk rolls base marks is ino roll there).at.within) (roll_below image ckpt walk rolls base marks is ino roll there)));
   }
 
-  module _ (ino : ℕ) (row : Row) (old : BaseRow) (found : FoundRow) (in_tree : map.get (tree image point walk rolls base marks is) ino ≡ Some row) (there : map.get walk.rows ino ≡ Some old) (like : IsRowLike image row old) (made : IsOfFile point.extent.blocks old.file found) where
+  module _ (ino : ℕ) (row : Row) (old : BaseRow) (found : FoundRow) (in_tree : map.get (tree image ckpt walk rolls base marks is) ino ≡ Some row) (there : map.get walk.rows ino ≡ Some old) (like : IsRowLike image row old) (made : IsOfFile ckpt.geom.blocks old.file found) where
     of_file : old.file.kind ≡ Regular → IsFoundRow image row found
     of_file regular =
         let own : row.kind ≡ Regular = like.kind ∙ regular in
-        let list = list_of_row image point walk is.read ino old there in
+        let list = list_of_row image ckpt walk is.read ino old there in
         let order = list_in_order old.file.nodes.pages.pages old.file.nodes.list.items list in
         record {
           kind = made.kind ∙ sym like.kind;
           size = made.size regular ∙ sym (like.size own);
           pages = of_list (block_at image) row.pages page_limit old.file.nodes.pages.pages old.file.nodes.list.items list order.rising (like.pages own)
-              ∙ ap (λ (list : List PageAt). entries_at (block_at image) list) (sym (made.pages regular order (base_below image point walk rolls base marks is ino old there)));
+              ∙ ap (λ (list : List PageAt). entries_at (block_at image) list) (sym (made.pages regular order (base_below image ckpt walk rolls base marks is ino old there)));
         }
 
     of_directory : old.file.kind ≡ Directory → IsFoundRow image row found
@@ -75,8 +75,8 @@ module _ (image : Image) (point : Checkpoint) (walk : Walk) (rolls : Rolls) (bas
     of_base Regular e = of_file e
     of_base Directory e = of_directory e
 
-  found : (ino : ℕ) (row : Option Row) (roll : Option Roll) (old : Option BaseRow) (made : Option FoundRow) → map.get (tree image point walk rolls base marks is) ino ≡ row → map.get rolls ino ≡ roll → map.get walk.rows ino ≡ old
-      → AreAlikeRolled image row roll old → IsMade point.extent.blocks roll old made → AreFound image row made
+  found : (ino : ℕ) (row : Option Row) (roll : Option Roll) (old : Option BaseRow) (made : Option FoundRow) → map.get (tree image ckpt walk rolls base marks is) ino ≡ row → map.get rolls ino ≡ roll → map.get walk.rows ino ≡ old
+      → AreAlikeRolled image row roll old → IsMade ckpt.geom.blocks roll old made → AreFound image row made
   found ino None None None None t r b like is_made = tt
   found ino None None None (Some row) t r b like is_made = absurd is_made
   found ino None None (Some old) made t r b like is_made = absurd like
@@ -87,17 +87,17 @@ module _ (image : Image) (point : Checkpoint) (walk : Walk) (rolls : Rolls) (bas
   found ino (Some row) (Some roll) old None t r b like is_made = absurd is_made
   found ino (Some row) (Some roll) old (Some made) t r b like is_made = of_roll ino row roll made r like is_made
 
-  module _ (made : map.FinMap nat_cmp FoundRow) (to : AreMadeTo point.extent.blocks rolls walk.rows (nid_limit point.extent) made) where
+  module _ (made : map.FinMap nat_cmp FoundRow) (to : AreMadeTo ckpt.geom.blocks rolls walk.rows (nid_limit ckpt.geom) made) where
     -- past the table is no row
-    past : (ino : ℕ) → nid_limit point.extent ≤ ino → (roll : Option Roll) (old : Option BaseRow) → map.get rolls ino ≡ roll → map.get walk.rows ino ≡ old → IsMade point.extent.blocks roll old (map.get made ino)
-    past ino high (Some roll) old r b = let low = roll_within image point walk rolls base marks is ino roll r in absurd (omega (arith, low, high))
-    past ino high None (Some old) r b = let low = row_within image point walk rolls base marks is ino old b in absurd (omega (arith, low, high))
-    past ino high None None r b = subst (IsMade point.extent.blocks None None) (sym (to.above ino high)) tt
+    past : (ino : ℕ) → nid_limit ckpt.geom ≤ ino → (roll : Option Roll) (old : Option BaseRow) → map.get rolls ino ≡ roll → map.get walk.rows ino ≡ old → IsMade ckpt.geom.blocks roll old (map.get made ino)
+    past ino high (Some roll) old r b = let low = roll_within image ckpt walk rolls base marks is ino roll r in absurd (omega (arith, low, high))
+    past ino high None (Some old) r b = let low = row_within image ckpt walk rolls base marks is ino old b in absurd (omega (arith, low, high))
+    past ino high None None r b = subst (IsMade ckpt.geom.blocks None None) (sym (to.above ino high)) tt
 
-    made_at : (ino : ℕ) → (ino < nid_limit point.extent) ⊎ (nid_limit point.extent ≤ ino) → IsMade point.extent.blocks (map.get rolls ino) (map.get walk.rows ino) (map.get made ino)
+    made_at : (ino : ℕ) → (ino < nid_limit ckpt.geom) ⊎ (nid_limit ckpt.geom ≤ ino) → IsMade ckpt.geom.blocks (map.get rolls ino) (map.get walk.rows ino) (map.get made ino)
     made_at ino (inl low) = to.below ino low
     made_at ino (inr high) = past ino high (map.get rolls ino) (map.get walk.rows ino) refl refl
 
-    pub rows_found : (ino : ℕ) → AreFound image (map.get (tree image point walk rolls base marks is) ino) (map.get made ino)
+    pub rows_found : (ino : ℕ) → AreFound image (map.get (tree image ckpt walk rolls base marks is) ino) (map.get made ino)
     rows_found ino =
-        found ino (map.get (tree image point walk rolls base marks is) ino) (map.get rolls ino) (map.get walk.rows ino) (map.get made ino) refl refl refl (alike image point walk rolls base marks is ino) (made_at ino (cases_lt ino (nid_limit point.extent)))
+        found ino (map.get (tree image ckpt walk rolls base marks is) ino) (map.get rolls ino) (map.get walk.rows ino) (map.get made ino) refl refl refl (alike image ckpt walk rolls base marks is ino) (made_at ino (cases_lt ino (nid_limit ckpt.geom)))

@@ -32,39 +32,39 @@ use Rattle.f2_found.specs.Made.{Rolls}
 use Rattle.f2_found.proofs.Maps.{one_some}
 
 -- an image whose base and marks were read, and its tree
-pub record IsTree (image : Image) (point : Checkpoint) (walk : Walk) (rolls : Rolls) (base : Rows) (marks : List Mark) : Type 0 where
-  pub read : IsBaseRead image point walk
-  pub nids : HasRightNids image point
-  pub right : HasRightMarks image point
-  pub pages : HasRightPages image point
-  pub are : AreRolls image point walk rolls
-  pub is_base : IsBase image point base
-  pub are_marks : AreMarks image point base marks
+pub record IsTree (image : Image) (ckpt : Checkpoint) (walk : Walk) (rolls : Rolls) (base : Rows) (marks : List Mark) : Type 0 where
+  pub read : IsBaseRead image ckpt walk
+  pub nids : HasRightNids image ckpt
+  pub right : HasRightMarks image ckpt
+  pub pages : HasRightPages image ckpt
+  pub are : AreRolls image ckpt walk rolls
+  pub is_base : IsBase image ckpt base
+  pub are_marks : AreMarks image ckpt base marks
 
 -- a kind that isn't a directory's
 regular_of : (kind : Kind) (told : Option Kind) → told ≡ Some kind → ¬ (told ≡ Some Directory) → kind ≡ Regular
 regular_of Regular told is other = refl
 regular_of Directory told is other = absurd (other is)
 
-module _ (image : Image) (point : Checkpoint) (walk : Walk) (rolls : Rolls) (base : Rows) (marks : List Mark) (is : IsTree image point walk rolls base marks) where
+module _ (image : Image) (ckpt : Checkpoint) (walk : Walk) (rolls : Rolls) (base : Rows) (marks : List Mark) (is : IsTree image ckpt walk rolls base marks) where
   abbrev last : ℕ → Option ℕ
-  last ino = last_mark_before (chain image point) (length (chain image point)) ino
+  last ino = last_mark_before (chain image ckpt) (length (chain image ckpt)) ino
 
   abbrev pub tree : Rows
   tree = rolled base marks
 
   pub alike : (ino : ℕ) → AreAlikeRolled image (map.get tree ino) (map.get rolls ino) (map.get walk.rows ino)
-  alike ino = rolled_alike image point walk rolls base marks is.read is.right is.are is.is_base is.are_marks ino
+  alike ino = rolled_alike image ckpt walk rolls base marks is.read is.right is.are is.is_base is.are_marks ino
 
   -- a row of the tree is one of the base, or a file's
   pub row_from : (ino : ℕ) (row : Row) → map.get tree ino ≡ Some row → (map.get base ino ≡ Some row) ⊎ ((row.ino ≡ ino) × (row.kind ≡ Regular))
-  row_from ino row there = by (rolls_on (chain image point) (IsMark image point base (chain image point)) (λ place mark is. is.ino) ino (length (chain image point)) 0 (length (chain image point)) base marks (omega arith) is.are_marks)
+  row_from ino row there = by (rolls_on (chain image ckpt) (IsMark image ckpt base (chain image ckpt)) (λ place mark is. is.ino) ino (length (chain image ckpt)) 0 (length (chain image ckpt)) base marks (omega arith) is.are_marks)
     where
-      by : IsLeft (chain image point) (IsMark image point base (chain image point)) (λ place mark is. is.ino) ino None (map.get base ino) (last ino) (map.get tree ino) → (map.get base ino ≡ Some row) ⊎ ((row.ino ≡ ino) × (row.kind ≡ Regular))
+      by : IsLeft (chain image ckpt) (IsMark image ckpt base (chain image ckpt)) (λ place mark is. is.ino) ino None (map.get base ino) (last ino) (map.get tree ino) → (map.get base ino ≡ Some row) ⊎ ((row.ino ≡ ino) × (row.kind ≡ Regular))
       by (inl none) = inl (sym none.1 ∙ there)
       by (inr one) =
-          let own = last_is (chain image point) ino (length (chain image point)) one.place one.found_is in
-          let block = block_in (chain image point) one.place in
+          let own = last_is (chain image ckpt) ino (length (chain image ckpt)) one.place one.found_is in
+          let block = block_in (chain image ckpt) one.place in
           let file = (is.right.marks one.place block (record { within = own.0; stands = refl; marked = own.1.marked })).kind in
           let same : one.mark.row ≡ row = one_some one.mark.row row (sym one.row_is ∙ there) in
           inr (
@@ -82,27 +82,27 @@ module _ (image : Image) (point : Checkpoint) (walk : Walk) (rolls : Rolls) (bas
   -- a file that was rolled has its mark
   pub record IsRollFrom (ino : ℕ) (roll : Roll) : Type 0 where
     pub place : ℕ
-    pub at : IsRollAt image point walk place ino roll
-    pub marked_at : IsMarkedAt image point place (block_in (chain image point) place)
-    pub own : footer_ino (block_in (chain image point) place) ≡ ino
+    pub at : IsRollAt image ckpt walk place ino roll
+    pub marked_at : IsMarkedAt image ckpt place (block_in (chain image ckpt) place)
+    pub own : footer_ino (block_in (chain image ckpt) place) ≡ ino
 
   pub roll_from : (ino : ℕ) (roll : Roll) → map.get rolls ino ≡ Some roll → IsRollFrom ino roll
-  roll_from ino roll there = by (last ino) refl (subst (IsRoll image point walk ino (last ino)) there (is.are ino))
+  roll_from ino roll there = by (last ino) refl (subst (IsRoll image ckpt walk ino (last ino)) there (is.are ino))
     where
-      by : (o : Option ℕ) → last ino ≡ o → IsRoll image point walk ino o (Some roll) → IsRollFrom ino roll
+      by : (o : Option ℕ) → last ino ≡ o → IsRoll image ckpt walk ino o (Some roll) → IsRollFrom ino roll
       by None found at = absurd at
       by (Some place) found at =
-          let mark = last_is (chain image point) ino (length (chain image point)) place found in
+          let mark = last_is (chain image ckpt) ino (length (chain image ckpt)) place found in
           record { place = place; at = at; marked_at = record { within = mark.0; stands = refl; marked = mark.1.marked }; own = mark.1.own }
 
   -- no ino is past the table
-  pub roll_within : (ino : ℕ) (roll : Roll) → map.get rolls ino ≡ Some roll → ino < nid_limit point.extent
+  pub roll_within : (ino : ℕ) (roll : Roll) → map.get rolls ino ≡ Some roll → ino < nid_limit ckpt.geom
   roll_within ino roll there =
       let from = roll_from ino roll there in
-      let block = block_in (chain image point) from.place in
+      let block = block_in (chain image ckpt) from.place in
       let top = eqb-true (footer_offset block) 0 (and_parts (footer_offset block == 0) (has_fsync_mark block) from.marked_at.marked).0 in
       let nid = is.nids from.place block (marked from.marked_at) in
-      subst (λ n. n < nid_limit point.extent) (nid.inode top ∙ from.own) nid.most
+      subst (λ n. n < nid_limit ckpt.geom) (nid.inode top ∙ from.own) nid.most
 
-  pub row_within : (ino : ℕ) (row : BaseRow) → map.get walk.rows ino ≡ Some row → ino < nid_limit point.extent
-  row_within ino row there = let file = (row_of image point walk is.read ino row there).file in nid_within image point ino file.inode file.is.there
+  pub row_within : (ino : ℕ) (row : BaseRow) → map.get walk.rows ino ≡ Some row → ino < nid_limit ckpt.geom
+  row_within ino row there = let file = (row_of image ckpt walk is.read ino row there).file in nid_within image ckpt ino file.inode file.is.there

@@ -32,8 +32,8 @@ pub fn put_together(
     walk: &Walk,
     rolls: &Rolls,
 ) -> Result<Found, AllocError>
-    ensures found { IfOk result (λ found. (image : Image) (point : Checkpoint) (base : Rows) (marks : List Mark) → point.extent ≡ g.now → IsBaseRead image point walk.now → HasRightNids image point
-        → HasRightMarks image point → HasRightPages image point → AreRolls image point walk.now rolls.now → IsBase image point base → AreMarks image point base marks → IsFound image (rolled base marks) found) }
+    ensures found { IfOk result (λ found. (image : Image) (ckpt : Checkpoint) (base : Rows) (marks : List Mark) → ckpt.geom ≡ g.now → IsBaseRead image ckpt walk.now → HasRightNids image ckpt
+        → HasRightMarks image ckpt → HasRightPages image ckpt → AreRolls image ckpt walk.now rolls.now → IsBase image ckpt base → AreMarks image ckpt base marks → IsFound image (rolled base marks) found) }
     ensures within { IfOk result (λ found. IsWithinBlocks g.now.blocks found) }
 {
     let rows = make_rows(alloc, g, walk, rolls)?;

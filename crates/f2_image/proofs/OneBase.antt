@@ -32,32 +32,32 @@ same_pages a b there in_a in_b a_is b_is = map.same_map nat_cmp_total nat_cmp-Is
     each page (Some x) y p q = let small = in_a page x p in a_is page small ∙ sym (b_is page small)
     each page None (Some y) p q = let small = in_b page y q in a_is page small ∙ sym (b_is page small)
 
-module _ (image : Image) (point : Checkpoint) where
+module _ (image : Image) (ckpt : Checkpoint) where
   -- the directory and the name with which an ino was reached
-  abbrev directory_of : (ino : ℕ) → IsReached image point ino → ℕ
+  abbrev directory_of : (ino : ℕ) → IsReached image ckpt ino → ℕ
   directory_of _ root = ROOT
   directory_of _ (below directory dentry up has) = directory
 
-  abbrev name_of : (ino : ℕ) → IsReached image point ino → List ℕ
+  abbrev name_of : (ino : ℕ) → IsReached image ckpt ino → List ℕ
   name_of _ root = []
   name_of _ (below directory dentry up has) = dentry.name
 
-  stands : (tree : Rows) → IsBase image point tree → (ino : ℕ) (reached : IsReached image point ino) → StandsAs tree ino (directory_of ino reached) (name_of ino reached)
+  stands : (tree : Rows) → IsBase image ckpt tree → (ino : ℕ) (reached : IsReached image ckpt ino) → StandsAs tree ino (directory_of ino reached) (name_of ino reached)
   stands tree base _ root = base.root
   stands tree base _ (below directory dentry up has) = base.names directory dentry up has
 
   -- the contents of two rows of one inode
-  same_content : (inode : List ℕ) (kind : Kind) (a b : Row) → HasContent image point inode kind a → HasContent image point inode kind b → (a.size ≡ b.size) × (a.pages ≡ b.pages)
+  same_content : (inode : List ℕ) (kind : Kind) (a b : Row) → HasContent image ckpt inode kind a → HasContent image ckpt inode kind b → (a.size ≡ b.size) × (a.pages ≡ b.pages)
   same_content inode Regular a b p q =
-      (p.0 ∙ sym q.0, same_pages a.pages b.pages (λ page. block_there image (page_address image point inode page)) p.2 q.2 p.1 q.1)
+      (p.0 ∙ sym q.0, same_pages a.pages b.pages (λ page. block_there image (page_address image ckpt inode page)) p.2 q.2 p.1 q.1)
   same_content inode Directory a b p q = (p.0 ∙ sym q.0, p.1 ∙ sym q.1)
 
-  same_row : (ino directory : ℕ) (name : List ℕ) (a b : Row) → IsBaseRow image point ino a → IsBaseRow image point ino b
+  same_row : (ino directory : ℕ) (name : List ℕ) (a b : Row) → IsBaseRow image ckpt ino a → IsBaseRow image ckpt ino b
       → (a.parent ≡ directory) × (a.name ≡ name) → (b.parent ≡ directory) × (b.name ≡ name) → a ≡ b
   same_row ino directory name a b p q at_a at_b =
       let inode : p.inode ≡ q.inode = same_some p.inode q.inode (sym p.is.there ∙ q.is.there) in
       let kind : a.kind ≡ b.kind = same_some a.kind b.kind (sym p.is.is_kind ∙ ap inode_kind inode ∙ q.is.is_kind) in
-      let other : HasContent image point p.inode a.kind b = subst (λ k. HasContent image point p.inode k b) (sym kind) (subst (λ n. HasContent image point n b.kind b) (sym inode) q.content) in
+      let other : HasContent image ckpt p.inode a.kind b = subst (λ k. HasContent image ckpt p.inode k b) (sym kind) (subst (λ n. HasContent image ckpt n b.kind b) (sym inode) q.content) in
       let content = same_content p.inode a.kind a b p.content other in
       let inos = p.own ∙ sym q.own in
       let parents = at_a.0 ∙ sym at_b.0 in
@@ -65,14 +65,14 @@ module _ (image : Image) (point : Checkpoint) where
       λ i. record { ino = inos i; kind = kind i; parent = parents i; name = names i; size = content.0 i; pages = content.1 i }
 
   -- what a base has under an ino that is reached
-  there_at : (tree : Rows) → IsBase image point tree → (ino : ℕ) (reached : IsReached image point ino) (row : Row) → map.get tree ino ≡ Some row
+  there_at : (tree : Rows) → IsBase image ckpt tree → (ino : ℕ) (reached : IsReached image ckpt ino) (row : Row) → map.get tree ino ≡ Some row
       → (row.parent ≡ directory_of ino reached) × (row.name ≡ name_of ino reached)
   there_at tree base ino reached row there =
       let at = stands tree base ino reached in
       let same : at.row ≡ row = same_some at.row row (sym at.there ∙ there) in
       (subst (λ r. r.parent ≡ directory_of ino reached) same at.parent, subst (λ r. r.name ≡ name_of ino reached) same at.named)
 
-  pub one_base : (a b : Rows) → IsBase image point a → IsBase image point b → a ≡ b
+  pub one_base : (a b : Rows) → IsBase image ckpt a → IsBase image ckpt b → a ≡ b
   one_base a b p q = map.same_map nat_cmp_total nat_cmp-IsAntisymmetric a b (λ ino. each ino (map.get a ino) (map.get b ino) refl refl)
     where
       each : (ino : ℕ) (x y : Option Row) → map.get a ino ≡ x → map.get b ino ≡ y → map.get a ino ≡ map.get b ino

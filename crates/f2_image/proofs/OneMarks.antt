@@ -28,16 +28,16 @@ same_names : (base : Rows) (inode : List ℕ) (a b : Row) (old : Option Row) →
 same_names base inode a b None p q = (p.0 ∙ sym q.0, p.1 ∙ sym q.1)
 same_names base inode a b (Some old) p q = (p.0 ∙ sym q.0, p.1 ∙ sym q.1)
 
-module _ (image : Image) (point : Checkpoint) (base : Rows) where
-  one_mark : (log : List Logged) (place : ℕ) (a b : Mark) → IsMark image point base log place a → IsMark image point base log place b → a ≡ b
+module _ (image : Image) (ckpt : Checkpoint) (base : Rows) where
+  one_mark : (log : List Logged) (place : ℕ) (a b : Mark) → IsMark image ckpt base log place a → IsMark image ckpt base log place b → a ≡ b
   one_mark log place a b p q =
       let ino : a.ino ≡ b.ino = p.ino ∙ sym q.ino in
       let row_ino : a.row.ino ≡ b.row.ino = p.row_ino ∙ ino ∙ sym q.row_ino in
       let kind : a.row.kind ≡ b.row.kind = same_some a.row.kind b.row.kind (sym p.kind ∙ q.kind) in
       let size : a.row.size ≡ b.row.size = p.size ∙ sym q.size in
-      let pages = same_pages a.row.pages b.row.pages (λ page. block_there image (marked_address image point log place page)) p.pages.within q.pages.within p.pages.blocks q.pages.blocks in
+      let pages = same_pages a.row.pages b.row.pages (λ page. block_there image (marked_address image ckpt log place page)) p.pages.within q.pages.within p.pages.blocks q.pages.blocks in
       let names = same_names base (block_in log place) a.row b.row (map.get base a.ino) p.named (subst (λ n. IsNamed base (block_in log place) b.row (map.get base n)) (sym ino) q.named) in
       λ i. record { ino = ino i; row = record { ino = row_ino i; kind = kind i; parent = names.0 i; name = names.1 i; size = size i; pages = pages i } }
 
-  pub one_list_of_marks : (a b : List Mark) → AreMarks image point base a → AreMarks image point base b → a ≡ b
-  one_list_of_marks a b p q = one_list (IsMark image point base (chain image point)) (one_mark (chain image point)) (marked_places (chain image point)) a b p q
+  pub one_list_of_marks : (a b : List Mark) → AreMarks image ckpt base a → AreMarks image ckpt base b → a ≡ b
+  one_list_of_marks a b p q = one_list (IsMark image ckpt base (chain image ckpt)) (one_mark (chain image ckpt)) (marked_places (chain image ckpt)) a b p q

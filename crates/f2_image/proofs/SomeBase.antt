@@ -5,7 +5,7 @@ use Rattle.std.specs.FinMap as map
 use Rattle.std.proofs.lemmas.Option.{none-some, same_Some}
 use native.Mathlib.Decide.{ℕ_discrete, dec_lt}
 use Rattle.f2_format.specs.Offsets.{page_limit}
-use Rattle.f2_format.specs.Geometry.{Extent, node_start, node_third, is_in_node, nid_limit}
+use Rattle.f2_format.specs.Geometry.{ImageGeometry, node_start, node_third, is_in_node, nid_limit}
 use Rattle.f2_format.specs.Inode.{inode_of}
 use Rattle.f2_format.specs.Dentry.{Dentry}
 use Rattle.f2_model.specs.Tree.{Rows, ROOT, most_depth, MOST_DEPTH}
@@ -35,8 +35,8 @@ most_is_less Regular depth within = omega (arith, within)
 most_is_less Directory depth within = omega (arith, within)
 
 -- the address 0 is in no zone
-outside : (extent : Extent) (at : ℕ) → at ≡ 0 → is_in_node extent at ≡ false
-outside extent at e = ap (is_in_node extent) e ∙ ap (λ b. not b && nat_lt 0 (node_start extent + 3 * node_third extent)) (is_before (node_start extent) (omega arith))
+outside : (geom : ImageGeometry) (at : ℕ) → at ≡ 0 → is_in_node geom at ≡ false
+outside geom at e = ap (is_in_node geom) e ∙ ap (λ b. not b && nat_lt 0 (node_start geom + 3 * node_third geom)) (is_before (node_start geom) (omega arith))
   where
     is_before : (n : ℕ) → 0 < n → nat_lt 0 n ≡ true
     is_before n less = grind (arith, less)
@@ -64,25 +64,25 @@ bad_tree e = cc
 
 -- where an ino stands: the root under no name in itself, another one under the name of a dentry
 abbrev IsPlaced : Image → Checkpoint → ℕ → ℕ → List ℕ → Type 0
-IsPlaced image point ino directory name =
+IsPlaced image ckpt ino directory name =
     ((ino ≡ ROOT) × (directory ≡ ROOT) × (name ≡ []))
-    ⊎ ((dentry : Dentry) × IsReached image point directory × HasDentry image point directory dentry × (dentry.ino ≡ ino) × (dentry.name ≡ name))
+    ⊎ ((dentry : Dentry) × IsReached image ckpt directory × HasDentry image ckpt directory dentry × (dentry.ino ≡ ino) × (dentry.name ≡ name))
 
-module _ (image : Image) (point : Checkpoint) where
+module _ (image : Image) (ckpt : Checkpoint) where
   -- each ino of the base stands somewhere, and what stands somewhere is in the base
-  placed : (ino : ℕ) → IsReached image point ino → (directory : ℕ) × ((name : List ℕ) × IsPlaced image point ino directory name)
+  placed : (ino : ℕ) → IsReached image ckpt ino → (directory : ℕ) × ((name : List ℕ) × IsPlaced image ckpt ino directory name)
   placed _ bases.root = (ROOT, ([], inl (refl, refl, refl)))
   placed _ (bases.below directory dentry up has) = (directory, (dentry.name, inr (dentry, up, has, refl, refl)))
 
-  reached_there : (ino directory : ℕ) (name : List ℕ) → IsPlaced image point ino directory name → IsReached image point ino
-  reached_there ino directory name (inl at_root) = subst (IsReached image point) (sym at_root.0) bases.root
-  reached_there ino directory name (inr (dentry, up, has, is, named)) = subst (IsReached image point) is (bases.below directory dentry up has)
+  reached_there : (ino directory : ℕ) (name : List ℕ) → IsPlaced image ckpt ino directory name → IsReached image ckpt ino
+  reached_there ino directory name (inl at_root) = subst (IsReached image ckpt) (sym at_root.0) bases.root
+  reached_there ino directory name (inr (dentry, up, has, is, named)) = subst (IsReached image ckpt) is (bases.below directory dentry up has)
 
   -- the pages of a file, and a row's content
-  content : (kind : Kind) (inode : List ℕ) → (size : ℕ) × ((pages : PageMap) × ((row : Row) → row.size ≡ size → row.pages ≡ pages → HasContent image point inode kind row))
+  content : (kind : Kind) (inode : List ℕ) → (size : ℕ) × ((pages : PageMap) × ((row : Row) → row.size ≡ size → row.pages ≡ pages → HasContent image ckpt inode kind row))
   content Directory inode = (0, (map.empty, λ row size pages. (size, pages)))
   content Regular inode =
-      let pages = map_below (λ page. block_there image (page_address image point inode page)) page_limit in (
+      let pages = map_below (λ page. block_there image (page_address image ckpt inode page)) page_limit in (
         (inode_of inode).size,
         (
           pages.entries,
@@ -94,53 +94,53 @@ module _ (image : Image) (point : Checkpoint) where
         ),
       )
 
-module _ (image : Image) (point : Checkpoint) (sound : IsSound image point) where
+module _ (image : Image) (ckpt : Checkpoint) (sound : IsSound image ckpt) where
   -- the table can be read
-  table : HasTable point
-  table = by_order (dec_lt MOST_JOURNAL_ENTRIES (journal_count point.summary))
+  table : HasTable ckpt
+  table = by_order (dec_lt MOST_JOURNAL_ENTRIES (journal_count ckpt.summary))
     where
       not_end : Journal ≢ VersionEnd
       not_end same = cc
 
-      by_order : Dec (MOST_JOURNAL_ENTRIES < journal_count point.summary) → HasTable point
-      by_order (yes many) = absurd (sound Journal (journal_count point.summary) not_end (many, refl))
+      by_order : Dec (MOST_JOURNAL_ENTRIES < journal_count ckpt.summary) → HasTable ckpt
+      by_order (yes many) = absurd (sound Journal (journal_count ckpt.summary) not_end (many, refl))
       by_order (no few) = omega (arith, few)
 
   -- an ino of the base has an inode of one of the two kinds
-  has_node : (ino : ℕ) → IsReached image point ino → (inode : List ℕ) × (node image point ino ≡ Some inode)
-  has_node ino reach = by_address (there_or_not image (node_address image point ino))
+  has_node : (ino : ℕ) → IsReached image ckpt ino → (inode : List ℕ) × (node image ckpt ino ≡ Some inode)
+  has_node ino reach = by_address (there_or_not image (node_address image ckpt ino))
     where
-      by_address : (node_address image point ino ≡ 0) ⊎ ((block : List ℕ) × (node image point ino ≡ Some block)) → (inode : List ℕ) × (node image point ino ≡ Some inode)
-      by_address (inl e) = absurd (sound BadNat ino bad_nat (table, faults.nowhere ino 0 (reached.inode ino reach) (outside point.extent (node_address image point ino) e)))
+      by_address : (node_address image ckpt ino ≡ 0) ⊎ ((block : List ℕ) × (node image ckpt ino ≡ Some block)) → (inode : List ℕ) × (node image ckpt ino ≡ Some inode)
+      by_address (inl e) = absurd (sound BadNat ino bad_nat (table, faults.nowhere ino 0 (reached.inode ino reach) (outside ckpt.geom (node_address image ckpt ino) e)))
       by_address (inr found) = found
 
-  has_inode : (ino : ℕ) → IsReached image point ino → (kind : Kind) × ((inode : List ℕ) × IsInode image point ino kind inode)
+  has_inode : (ino : ℕ) → IsReached image ckpt ino → (kind : Kind) × ((inode : List ℕ) × IsInode image ckpt ino kind inode)
   has_inode ino reach = by_kind (has_node ino reach).0 (has_node ino reach).1 (inode_kind (has_node ino reach).0) refl
     where
-      by_kind : (inode : List ℕ) → node image point ino ≡ Some inode → (o : Option Kind) → inode_kind inode ≡ o → (kind : Kind) × ((inode : List ℕ) × IsInode image point ino kind inode)
-      by_kind inode there None e = absurd (sound BadInode (node_address image point ino) bad_inode (faults.in_base table ino inode reach there refl (inl e)))
+      by_kind : (inode : List ℕ) → node image ckpt ino ≡ Some inode → (o : Option Kind) → inode_kind inode ≡ o → (kind : Kind) × ((inode : List ℕ) × IsInode image ckpt ino kind inode)
+      by_kind inode there None e = absurd (sound BadInode (node_address image ckpt ino) bad_inode (faults.in_base table ino inode reach there refl (inl e)))
       by_kind inode there (Some kind) e = (kind, (inode, record { there = there; is_kind = e }))
 
   -- no ino stands too deep
-  depth_within : (depth ino : ℕ) → IsBelow image point depth ino → depth < past_depth
+  depth_within : (depth ino : ℕ) → IsBelow image ckpt depth ino → depth < past_depth
   depth_within depth ino is =
-      let found = has_inode ino (reached_of image point depth ino is) in
+      let found = has_inode ino (reached_of image ckpt depth ino is) in
       most_is_less found.0 depth (λ deep. sound BadTree ino bad_tree (table, faults.too_deep depth found.0 found.1.0 is found.1.1 deep))
 
   -- whether an ino is in the base
-  is_reached : (ino : ℕ) → Dec (IsReached image point ino)
-  is_reached ino = by_search (some_below (λ depth. IsDown image point depth ino) (λ depth. is_down image point depth ino) past_depth)
+  is_reached : (ino : ℕ) → Dec (IsReached image ckpt ino)
+  is_reached ino = by_search (some_below (λ depth. IsDown image ckpt depth ino) (λ depth. is_down image ckpt depth ino) past_depth)
     where
-      by_search : Dec ((depth : ℕ) × (depth < past_depth) × IsDown image point depth ino) → Dec (IsReached image point ino)
-      by_search (yes found) = yes (reached_of image point found.0 ino (below_of image point found.0 ino found.2))
-      by_search (no none) = no (λ reach. let at = some_depth image point ino reach in none (at.0, depth_within at.0 ino at.1, down_of image point at.0 ino at.1))
+      by_search : Dec ((depth : ℕ) × (depth < past_depth) × IsDown image ckpt depth ino) → Dec (IsReached image ckpt ino)
+      by_search (yes found) = yes (reached_of image ckpt found.0 ino (below_of image ckpt found.0 ino found.2))
+      by_search (no none) = no (λ reach. let at = some_depth image ckpt ino reach in none (at.0, depth_within at.0 ino at.1, down_of image ckpt at.0 ino at.1))
 
   -- a dentry names no ino below 4, so not the root
-  not_root : (directory : ℕ) (dentry : Dentry) → IsReached image point directory → HasDentry image point directory dentry → dentry.ino ≡ ROOT → ⊥
+  not_root : (directory : ℕ) (dentry : Dentry) → IsReached image ckpt directory → HasDentry image ckpt directory dentry → dentry.ino ≡ ROOT → ⊥
   not_root directory dentry up has e = sound BadTree dentry.ino bad_tree (table, faults.too_low directory dentry up has refl (omega (arith, e)))
 
   -- two dentries of one ino are the same
-  one_dentry : (directory other : ℕ) (a b : Dentry) → IsReached image point directory → IsReached image point other → HasDentry image point directory a → HasDentry image point other b → a.ino ≡ b.ino
+  one_dentry : (directory other : ℕ) (a b : Dentry) → IsReached image ckpt directory → IsReached image ckpt other → HasDentry image ckpt directory a → HasDentry image ckpt other b → a.ino ≡ b.ino
       → (directory ≡ other) × (a ≡ b)
   one_dentry directory other a b up up_other (page, slot, p) (more, place, q) same = by_parts (ℕ_discrete directory other) (ℕ_discrete page more) (ℕ_discrete slot place)
     where
@@ -152,12 +152,12 @@ module _ (image : Image) (point : Checkpoint) (sound : IsSound image point) wher
       by_parts (yes d) (no apart) y = absurd (differ (inr (inl apart)))
       by_parts (yes d) (yes e) (no apart) = absurd (differ (inr (inr apart)))
       by_parts (yes d) (yes e) (yes f) =
-          let moved : HasDentryAt image point other more place a =
-          subst (λ k. HasDentryAt image point other more k a) f (subst (λ k. HasDentryAt image point other k slot a) e (subst (λ k. HasDentryAt image point k page slot a) d p)) in
-          (d, same_dentry image point other more place a b moved q)
+          let moved : HasDentryAt image ckpt other more place a =
+          subst (λ k. HasDentryAt image ckpt other more k a) f (subst (λ k. HasDentryAt image ckpt other k slot a) e (subst (λ k. HasDentryAt image ckpt k page slot a) d p)) in
+          (d, same_dentry image ckpt other more place a b moved q)
 
   -- so an ino stands in one place
-  one_place : (ino a b : ℕ) (m n : List ℕ) → IsPlaced image point ino a m → IsPlaced image point ino b n → (a ≡ b) × (m ≡ n)
+  one_place : (ino a b : ℕ) (m n : List ℕ) → IsPlaced image ckpt ino a m → IsPlaced image ckpt ino b n → (a ≡ b) × (m ≡ n)
   one_place ino a b m n (inl p) (inl q) = (p.1 ∙ sym q.1, p.2 ∙ sym q.2)
   one_place ino a b m n (inl p) (inr (dentry, up, has, is, named)) = absurd (not_root b dentry up has (is ∙ p.0))
   one_place ino a b m n (inr (dentry, up, has, is, named)) (inl q) = absurd (not_root a dentry up has (is ∙ q.0))
@@ -168,42 +168,42 @@ module _ (image : Image) (point : Checkpoint) (sound : IsSound image point) wher
   -- the row of an ino, where it is in the base
   record Choice (ino : ℕ) : Type 0 where
     row : Option Row
-    absent : row ≡ None → ¬ (IsReached image point ino)
-    present : (r : Row) → row ≡ Some r → IsBaseRow image point ino r × IsPlaced image point ino r.parent r.name
+    absent : row ≡ None → ¬ (IsReached image ckpt ino)
+    present : (r : Row) → row ≡ Some r → IsBaseRow image ckpt ino r × IsPlaced image ckpt ino r.parent r.name
 
-  row_of : (ino : ℕ) → IsReached image point ino → (row : Row) × (IsBaseRow image point ino row × IsPlaced image point ino row.parent row.name)
+  row_of : (ino : ℕ) → IsReached image ckpt ino → (row : Row) × (IsBaseRow image ckpt ino row × IsPlaced image ckpt ino row.parent row.name)
   row_of ino reach =
       let found = has_inode ino reach in
-      let at = placed image point ino reach in
-      let parts = content image point found.0 found.1.0 in
+      let at = placed image ckpt ino reach in
+      let parts = content image ckpt found.0 found.1.0 in
       let row : Row = record { ino = ino; kind = found.0; parent = at.0; name = at.1.0; size = parts.0; pages = parts.1.0 } in
       (row, (record { own = refl; reached = reach; inode = found.1.0; is = found.1.1; content = parts.1.1 row refl refl }, at.1.1))
 
   chosen : (ino : ℕ) → Choice ino
   chosen ino = by_decision (is_reached ino)
     where
-      by_decision : Dec (IsReached image point ino) → Choice ino
+      by_decision : Dec (IsReached image ckpt ino) → Choice ino
       by_decision (yes reach) =
           let found = row_of ino reach in
           record {
             row = Some found.0;
             absent = λ e. absurd (none-some found.0 (sym e));
-            present = λ r e. subst (λ x. IsBaseRow image point ino x × IsPlaced image point ino x.parent x.name) (same_Some found.0 r e) found.1;
+            present = λ r e. subst (λ x. IsBaseRow image ckpt ino x × IsPlaced image ckpt ino x.parent x.name) (same_Some found.0 r e) found.1;
           }
       by_decision (no none) = record { row = None; absent = λ e. none; present = λ r e. absurd (none-some r e) }
 
-  rows : MapBelow (nid_limit point.extent) (λ ino. (chosen ino).row)
-  rows = map_below (λ ino. (chosen ino).row) (nid_limit point.extent)
+  rows : MapBelow (nid_limit ckpt.geom) (λ ino. (chosen ino).row)
+  rows = map_below (λ ino. (chosen ino).row) (nid_limit ckpt.geom)
 
   -- the base has a row where an ino stands
-  stands : (ino directory : ℕ) (name : List ℕ) → IsPlaced image point ino directory name → StandsAs rows.entries ino directory name
+  stands : (ino directory : ℕ) (name : List ℕ) → IsPlaced image ckpt ino directory name → StandsAs rows.entries ino directory name
   stands ino directory name at = by_choice (chosen ino).row refl
     where
-      reach : IsReached image point ino
-      reach = reached_there image point ino directory name at
+      reach : IsReached image ckpt ino
+      reach = reached_there image ckpt ino directory name at
 
-      within : ino < nid_limit point.extent
-      within = let found = has_node ino reach in node_in_table image point ino found.0 found.1
+      within : ino < nid_limit ckpt.geom
+      within = let found = has_node ino reach in node_in_table image ckpt ino found.0 found.1
 
       by_choice : (o : Option Row) → (chosen ino).row ≡ o → StandsAs rows.entries ino directory name
       by_choice None e = absurd ((chosen ino).absent e reach)
@@ -211,7 +211,7 @@ module _ (image : Image) (point : Checkpoint) (sound : IsSound image point) wher
           let same = one_place ino row.parent directory row.name name ((chosen ino).present row e).1 at in
           record { row = row; there = rows.below ino within ∙ e; parent = same.0; named = same.1 }
 
-  pub some_base : (base : Rows) × IsBase image point base
+  pub some_base : (base : Rows) × IsBase image ckpt base
   some_base = (
     rows.entries,
     record {

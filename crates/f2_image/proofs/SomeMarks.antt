@@ -25,19 +25,19 @@ named_as : (base : Rows) (inode : List ℕ) (old : Option Row) → (parent : ℕ
 named_as base inode (Some old) = (old.parent, (old.name, λ row p q. (p, q)))
 named_as base inode None = ((inode_of inode).parent, (take (inode_of inode).name_length (inode_of inode).name, λ row p q. (p, q)))
 
-module _ (image : Image) (point : Checkpoint) (sound : IsSound image point) where
-  marked_kind : (place : ℕ) (block : List ℕ) → IsMarkedAt image point place block → (kind : Kind) × (inode_kind block ≡ Some kind)
+module _ (image : Image) (ckpt : Checkpoint) (sound : IsSound image ckpt) where
+  marked_kind : (place : ℕ) (block : List ℕ) → IsMarkedAt image ckpt place block → (kind : Kind) × (inode_kind block ≡ Some kind)
   marked_kind place block is = by_kind (inode_kind block) refl
     where
       by_kind : (o : Option Kind) → inode_kind block ≡ o → (kind : Kind) × (inode_kind block ≡ Some kind)
       by_kind None e = absurd (sound BadInode _ bad_inode (faults.in_log place block is refl (inl e)))
       by_kind (Some kind) e = (kind, e)
 
-  mark_at : (base : Rows) (place : ℕ) → place < length (chain image point) → IsTrue (is_marked (block_in (chain image point) place)) → (mark : Mark) × IsMark image point base (chain image point) place mark
+  mark_at : (base : Rows) (place : ℕ) → place < length (chain image ckpt) → IsTrue (is_marked (block_in (chain image ckpt) place)) → (mark : Mark) × IsMark image ckpt base (chain image ckpt) place mark
   mark_at base place within marked =
-      let block = block_in (chain image point) place in
+      let block = block_in (chain image ckpt) place in
       let kind = marked_kind place block (record { within = within; stands = refl; marked = marked }) in
-      let pages = map_below (λ page. block_there image (marked_address image point (chain image point) place page)) page_limit in
+      let pages = map_below (λ page. block_there image (marked_address image ckpt (chain image ckpt) place page)) page_limit in
       let name = named_as base block (map.get base (footer_ino block)) in
       let row : Row = record { ino = footer_ino block; kind = kind.0; parent = name.0; name = name.1.0; size = (inode_of block).size; pages = pages.entries } in (
         record { ino = footer_ino block; row = row },
@@ -51,6 +51,6 @@ module _ (image : Image) (point : Checkpoint) (sound : IsSound image point) wher
         },
       )
 
-  pub some_marks : (base : Rows) → (marks : List Mark) × AreMarks image point base marks
+  pub some_marks : (base : Rows) → (marks : List Mark) × AreMarks image ckpt base marks
   some_marks base =
-      zipped (IsMark image point base (chain image point)) (λ place. is_marked (block_in (chain image point) place)) (length (chain image point)) (mark_at base) 0 (length (chain image point)) (omega arith)
+      zipped (IsMark image ckpt base (chain image ckpt)) (λ place. is_marked (block_in (chain image ckpt) place)) (length (chain image ckpt)) (mark_at base) 0 (length (chain image ckpt)) (omega arith)

@@ -23,51 +23,51 @@ abbrev pub inode_kind : List ℕ → Option Kind
 inode_kind inode = kind_of_mode (inode_of inode).mode
 
 -- an ino has this inode, which is of this kind
-pub record IsInode (image : Image) (point : Checkpoint) (ino : ℕ) (kind : Kind) (inode : List ℕ) : Type 0 where
-  pub there : node image point ino ≡ Some inode
+pub record IsInode (image : Image) (ckpt : Checkpoint) (ino : ℕ) (kind : Kind) (inode : List ℕ) : Type 0 where
+  pub there : node image ckpt ino ≡ Some inode
   pub is_kind : inode_kind inode ≡ Some kind
 
 -- a block of a directory: its page and its address
-pub record IsDirectoryBlock (image : Image) (point : Checkpoint) (directory page at : ℕ) : Type 0 where
+pub record IsDirectoryBlock (image : Image) (ckpt : Checkpoint) (directory page at : ℕ) : Type 0 where
   pub inode : List ℕ
-  pub is : IsInode image point directory Directory inode
+  pub is : IsInode image ckpt directory Directory inode
   pub within : page < page_limit
-  pub at_page : page_address image point inode page ≡ at
+  pub at_page : page_address image ckpt inode page ≡ at
   pub there : at ≢ 0
 
 -- a name begins in this slot of this block of a directory: a dentry of it
-pub record HasDentryAt (image : Image) (point : Checkpoint) (directory page slot : ℕ) (dentry : Dentry) : Type 0 where
+pub record HasDentryAt (image : Image) (ckpt : Checkpoint) (directory page slot : ℕ) (dentry : Dentry) : Type 0 where
   pub at : ℕ
-  pub block : IsDirectoryBlock image point directory page at
+  pub block : IsDirectoryBlock image ckpt directory page at
   pub within : slot < SLOTS_A_BLOCK
   pub begins : IsTrue (begins_name (block_at image at) slot)
   pub is : dentry_at (block_at image at) slot ≡ dentry
 
 -- a directory has a dentry
 abbrev pub HasDentry : Image → Checkpoint → ℕ → Dentry → Type 0
-HasDentry image point directory dentry = (page slot : ℕ) × HasDentryAt image point directory page slot dentry
+HasDentry image ckpt directory dentry = (page slot : ℕ) × HasDentryAt image ckpt directory page slot dentry
 
 -- the inos of the base: the root, and each that a dentry of such a directory names
-pub data IsReached (image : Image) (point : Checkpoint) : ℕ → Type 0 where
-  root : IsReached image point ROOT
-  below : (directory : ℕ) (dentry : Dentry) → IsReached image point directory → HasDentry image point directory dentry → IsReached image point dentry.ino
+pub data IsReached (image : Image) (ckpt : Checkpoint) : ℕ → Type 0 where
+  root : IsReached image ckpt ROOT
+  below : (directory : ℕ) (dentry : Dentry) → IsReached image ckpt directory → HasDentry image ckpt directory dentry → IsReached image ckpt dentry.ino
 
 -- the pages of a file are the blocks that are there
 abbrev pub ArePages : Image → Checkpoint → List ℕ → PageMap → Type 0
-ArePages image point inode pages = (page : ℕ) → page < page_limit → map.get pages page ≡ block_there image (page_address image point inode page)
+ArePages image ckpt inode pages = (page : ℕ) → page < page_limit → map.get pages page ≡ block_there image (page_address image ckpt inode page)
 
 -- a file's size and pages; a directory has neither
 abbrev pub HasContent : Image → Checkpoint → List ℕ → Kind → Row → Type 0
-HasContent image point inode Regular row = (row.size ≡ (inode_of inode).size) × ArePages image point inode row.pages × ((page : ℕ) (bytes : List ℕ) → map.get row.pages page ≡ Some bytes → page < page_limit)
-HasContent image point inode Directory row = (row.size ≡ 0) × (row.pages ≡ map.empty)
+HasContent image ckpt inode Regular row = (row.size ≡ (inode_of inode).size) × ArePages image ckpt inode row.pages × ((page : ℕ) (bytes : List ℕ) → map.get row.pages page ≡ Some bytes → page < page_limit)
+HasContent image ckpt inode Directory row = (row.size ≡ 0) × (row.pages ≡ map.empty)
 
 -- a row of the base, but for its parent and its name
-pub record IsBaseRow (image : Image) (point : Checkpoint) (ino : ℕ) (row : Row) : Type 0 where
+pub record IsBaseRow (image : Image) (ckpt : Checkpoint) (ino : ℕ) (row : Row) : Type 0 where
   pub own : row.ino ≡ ino
-  pub reached : IsReached image point ino
+  pub reached : IsReached image ckpt ino
   pub inode : List ℕ
-  pub is : IsInode image point ino row.kind inode
-  pub content : HasContent image point inode row.kind row
+  pub is : IsInode image ckpt ino row.kind inode
+  pub content : HasContent image ckpt inode row.kind row
 
 -- a row that stands in a directory under a name
 pub record StandsAs (tree : Rows) (ino directory : ℕ) (name : List ℕ) : Type 0 where
@@ -77,7 +77,7 @@ pub record StandsAs (tree : Rows) (ino directory : ℕ) (name : List ℕ) : Type
   pub named : row.name ≡ name
 
 -- the base of an image
-pub record IsBase (image : Image) (point : Checkpoint) (tree : Rows) : Type 0 where
-  pub rows : (ino : ℕ) (row : Row) → map.get tree ino ≡ Some row → IsBaseRow image point ino row
+pub record IsBase (image : Image) (ckpt : Checkpoint) (tree : Rows) : Type 0 where
+  pub rows : (ino : ℕ) (row : Row) → map.get tree ino ≡ Some row → IsBaseRow image ckpt ino row
   pub root : StandsAs tree ROOT ROOT []
-  pub names : (directory : ℕ) (dentry : Dentry) → IsReached image point directory → HasDentry image point directory dentry → StandsAs tree dentry.ino directory dentry.name
+  pub names : (directory : ℕ) (dentry : Dentry) → IsReached image ckpt directory → HasDentry image ckpt directory dentry → StandsAs tree dentry.ino directory dentry.name

@@ -45,7 +45,7 @@ chain_from image version (suc most) at =
 
 -- the chain of an image; where it goes on after a third of the node zone, one block more is told
 unfoldable pub chain : Image → Checkpoint → List Logged
-chain image point = chain_from image (recovery_version point) (node_third point.extent + 1) point.head.log_start
+chain image ckpt = chain_from image (recovery_version ckpt) (node_third ckpt.geom + 1) ckpt.head.log_start
 
 -- the block at a place of a chain
 abbrev pub no_block : Logged
@@ -76,26 +76,26 @@ or_below None base = base
 or_below (Some block) base = Some block
 
 abbrev pub base_direct : Image → Checkpoint → Option (List ℕ) → ℕ → Option (List ℕ)
-base_direct image point None page = None
-base_direct image point (Some inode) page = direct_node image point inode page
+base_direct image ckpt None page = None
+base_direct image ckpt (Some inode) page = direct_node image ckpt inode page
 
 abbrev pub logged_direct : List Logged → ℕ → ℕ → Option ℕ → Option (List ℕ)
 logged_direct log place ino None = None
 logged_direct log place ino (Some offset) = last_before log (place + 1) ino offset
 
 abbrev pub marked_direct : Image → Checkpoint → List Logged → ℕ → ℕ → Option (List ℕ)
-marked_direct image point log place page =
+marked_direct image ckpt log place page =
     let ino = footer_ino (block_in log place) in
-    or_below (logged_direct log place ino (direct_of page)) (base_direct image point (node image point ino) page)
+    or_below (logged_direct log place ino (direct_of page)) (base_direct image ckpt (node image ckpt ino) page)
 
 -- the address of a page of a marked row
 abbrev pub marked_address : Image → Checkpoint → List Logged → ℕ → ℕ → ℕ
-marked_address image point log place page = address_in (block_in log place) (marked_direct image point log place page) page
+marked_address image ckpt log place page = address_in (block_in log place) (marked_direct image ckpt log place page) page
 
 -- the pages of a marked row
-pub record AreMarkedPages (image : Image) (point : Checkpoint) (log : List Logged) (place : ℕ) (pages : PageMap) : Type 0 where
+pub record AreMarkedPages (image : Image) (ckpt : Checkpoint) (log : List Logged) (place : ℕ) (pages : PageMap) : Type 0 where
   pub within : (page : ℕ) (bytes : List ℕ) → map.get pages page ≡ Some bytes → page < page_limit
-  pub blocks : (page : ℕ) → page < page_limit → map.get pages page ≡ block_there image (marked_address image point log place page)
+  pub blocks : (page : ℕ) → page < page_limit → map.get pages page ≡ block_there image (marked_address image ckpt log place page)
 
 -- the parent and the name of a marked row: those of the base where its ino is there, else those of its inode
 abbrev pub IsNamed : Rows → List ℕ → Row → Option Row → Type 0
@@ -103,14 +103,14 @@ IsNamed base inode row (Some old) = (row.parent ≡ old.parent) × (row.name ≡
 IsNamed base inode row None = (row.parent ≡ (inode_of inode).parent) × (row.name ≡ take (inode_of inode).name_length (inode_of inode).name)
 
 -- the mark whose block stands at this place
-pub record IsMark (image : Image) (point : Checkpoint) (base : Rows) (log : List Logged) (place : ℕ) (mark : Mark) : Type 0 where
+pub record IsMark (image : Image) (ckpt : Checkpoint) (base : Rows) (log : List Logged) (place : ℕ) (mark : Mark) : Type 0 where
   pub ino : mark.ino ≡ footer_ino (block_in log place)
   pub row_ino : mark.row.ino ≡ mark.ino
   pub kind : inode_kind (block_in log place) ≡ Some mark.row.kind
   pub size : mark.row.size ≡ (inode_of (block_in log place)).size
-  pub pages : AreMarkedPages image point log place mark.row.pages
+  pub pages : AreMarkedPages image ckpt log place mark.row.pages
   pub named : IsNamed base (block_in log place) mark.row (map.get base mark.ino)
 
 -- the marks of an image in the order of their blocks
 abbrev pub AreMarks : Image → Checkpoint → Rows → List Mark → Type 0
-AreMarks image point base marks = AllZip (IsMark image point base (chain image point)) (marked_places (chain image point)) marks
+AreMarks image ckpt base marks = AllZip (IsMark image ckpt base (chain image ckpt)) (marked_places (chain image ckpt)) marks

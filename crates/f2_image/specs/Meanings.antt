@@ -13,33 +13,33 @@ use Rattle.f2_image.specs.Chains.{AreMarks}
 use Rattle.f2_image.specs.Faults.{IsSound}
 
 -- an image with this checkpoint stands for a base and the marks after it
-pub record MeansAt (image : Image) (point : Checkpoint) (base : Rows) (marks : List Mark) : Type 0 where
-  pub checkpoint : IsCheckpoint image point
-  pub sound : IsSound image point
-  pub is_base : IsBase image point base
-  pub are_marks : AreMarks image point base marks
+pub record MeansAt (image : Image) (ckpt : Checkpoint) (base : Rows) (marks : List Mark) : Type 0 where
+  pub checkpoint : IsCheckpoint image ckpt
+  pub sound : IsSound image ckpt
+  pub is_base : IsBase image ckpt base
+  pub are_marks : AreMarks image ckpt base marks
 
 abbrev pub Means : Image → Rows → List Mark → Type 0
-Means image base marks = (point : Checkpoint) × MeansAt image point base marks
+Means image base marks = (ckpt : Checkpoint) × MeansAt image ckpt base marks
 
 -- no block and no tail of an image is of a later version than its checkpoint, so none can come to count by itself; of what a block
 -- carries the lower half tells the checkpoint's version
-pub record IsCleanAt (image : Image) (point : Checkpoint) : Type 0 where
-  pub nodes : (at : ℕ) → IsTrue (is_in_node point.extent at) → footer_version (block_at image at) % 2 ^ 32 ≤ point.head.version
-  pub tails : (side : Side) → (head_of (block_at image (tail_address side))).version ≤ point.head.version
+pub record IsCleanAt (image : Image) (ckpt : Checkpoint) : Type 0 where
+  pub nodes : (at : ℕ) → IsTrue (is_in_node ckpt.geom at) → footer_version (block_at image at) % 2 ^ 32 ≤ ckpt.head.version
+  pub tails : (side : Side) → (head_of (block_at image (tail_address side))).version ≤ ckpt.head.version
 
 abbrev pub IsClean : Image → Type 0
-IsClean image = (point : Checkpoint) × IsCheckpoint image point × IsCleanAt image point
+IsClean image = (ckpt : Checkpoint) × IsCheckpoint image ckpt × IsCleanAt image ckpt
 
 -- an image stands for what may remain of a state, is of that version and format, and is clean
 pub record IsLeft (state : State) (image : Image) : Type 0 where
-  pub point : Checkpoint
+  pub ckpt : Checkpoint
   pub meaning : Meaning
   pub remains : MayRemain state meaning
-  pub means : MeansAt image point meaning.base meaning.marks
-  pub version : point.head.version ≡ meaning.version
-  pub format : format_of point ≡ meaning.format
-  pub clean : IsCleanAt image point
+  pub means : MeansAt image ckpt meaning.base meaning.marks
+  pub version : ckpt.head.version ≡ meaning.version
+  pub format : format_of ckpt ≡ meaning.format
+  pub clean : IsCleanAt image ckpt
 
 -- a crash leaves an image of a disk, and each that it may leave is such a one
 abbrev pub IsSafe : Contents → State → Type 0

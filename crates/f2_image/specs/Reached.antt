@@ -39,10 +39,10 @@ abbrev pub nid_in : List ℕ → ℕ → ℕ → ℕ
 nid_in block offset slot = if offset == 0 then slice_index_or (inode_of block).nids slot 0 else node_word block slot
 
 -- the nodes of the base, also those above no page: a file's inode, and what a node of it names, by ino, offset and nid
-pub data IsNode (image : Image) (point : Checkpoint) : ℕ → ℕ → ℕ → Type 0 where
-  inode : (ino : ℕ) → IsReached image point ino → IsNode image point ino 0 ino
-  named : (ino offset nid slot lower : ℕ) (block : List ℕ) → IsNode image point ino offset nid → node image point nid ≡ Some block → slot < nids_of_node offset
-      → offset_below offset slot ≡ Some lower → nid_in block offset slot ≢ 0 → IsNode image point ino lower (nid_in block offset slot)
+pub data IsNode (image : Image) (ckpt : Checkpoint) : ℕ → ℕ → ℕ → Type 0 where
+  inode : (ino : ℕ) → IsReached image ckpt ino → IsNode image ckpt ino 0 ino
+  named : (ino offset nid slot lower : ℕ) (block : List ℕ) → IsNode image ckpt ino offset nid → node image ckpt nid ≡ Some block → slot < nids_of_node offset
+      → offset_below offset slot ≡ Some lower → nid_in block offset slot ≢ 0 → IsNode image ckpt ino lower (nid_in block offset slot)
 
 -- an offset is that of a direct node
 pub record IsDirect (offset : ℕ) : Type 0 where
@@ -51,47 +51,47 @@ pub record IsDirect (offset : ℕ) : Type 0 where
   pub is : nth_direct number ≡ offset
 
 -- a place of the chain has a marked block
-pub record IsMarkedAt (image : Image) (point : Checkpoint) (place : ℕ) (block : List ℕ) : Type 0 where
-  pub within : place < length (chain image point)
-  pub stands : block ≡ block_in (chain image point) place
+pub record IsMarkedAt (image : Image) (ckpt : Checkpoint) (place : ℕ) (block : List ℕ) : Type 0 where
+  pub within : place < length (chain image ckpt)
+  pub stands : block ≡ block_in (chain image ckpt) place
   pub marked : IsTrue (is_marked block)
 
 -- a chain block counts: a marked block of its file stands there or later
-pub record IsCounted (image : Image) (point : Checkpoint) (place : ℕ) (block : List ℕ) : Type 0 where
-  pub stands : block ≡ block_in (chain image point) place
+pub record IsCounted (image : Image) (ckpt : Checkpoint) (place : ℕ) (block : List ℕ) : Type 0 where
+  pub stands : block ≡ block_in (chain image ckpt) place
   pub mark : ℕ
   pub inode : List ℕ
   pub later : place ≤ mark
-  pub marked : IsMarkedAt image point mark inode
+  pub marked : IsMarkedAt image ckpt mark inode
   pub same : footer_ino inode ≡ footer_ino block
 
 -- a block of the node log that recovery takes: a marked one, or a direct node that counts
-pub data IsTaken (image : Image) (point : Checkpoint) (place : ℕ) (block : List ℕ) : Type 0 where
-  marked : IsMarkedAt image point place block → IsTaken image point place block
-  direct : IsCounted image point place block → IsDirect (footer_offset block) → IsTaken image point place block
+pub data IsTaken (image : Image) (ckpt : Checkpoint) (place : ℕ) (block : List ℕ) : Type 0 where
+  marked : IsMarkedAt image ckpt place block → IsTaken image ckpt place block
+  direct : IsCounted image ckpt place block → IsDirect (footer_offset block) → IsTaken image ckpt place block
 
 -- a page of a row of the base, dentry blocks included, with its address
-pub record IsBasePage (image : Image) (point : Checkpoint) (ino page at : ℕ) : Type 0 where
-  pub reached : IsReached image point ino
+pub record IsBasePage (image : Image) (ckpt : Checkpoint) (ino page at : ℕ) : Type 0 where
+  pub reached : IsReached image ckpt ino
   pub kind : Kind
   pub inode : List ℕ
-  pub is : IsInode image point ino kind inode
+  pub is : IsInode image ckpt ino kind inode
   pub within : page < page_limit
-  pub address : page_address image point inode page ≡ at
+  pub address : page_address image ckpt inode page ≡ at
   pub there : at ≢ 0
 
 -- a page of the row of a marked block, with its address
-pub record IsMarkedPage (image : Image) (point : Checkpoint) (ino page at : ℕ) : Type 0 where
+pub record IsMarkedPage (image : Image) (ckpt : Checkpoint) (ino page at : ℕ) : Type 0 where
   pub place : ℕ
   pub inode : List ℕ
-  pub marked : IsMarkedAt image point place inode
+  pub marked : IsMarkedAt image ckpt place inode
   pub own : footer_ino inode ≡ ino
   pub within : page < page_limit
-  pub address : marked_address image point (chain image point) place page ≡ at
+  pub address : marked_address image ckpt (chain image ckpt) place page ≡ at
   pub there : at ≢ 0
 
 abbrev pub IsPage : Image → Checkpoint → ℕ → ℕ → ℕ → Type 0
-IsPage image point ino page at = IsBasePage image point ino page at ⊎ IsMarkedPage image point ino page at
+IsPage image ckpt ino page at = IsBasePage image ckpt ino page at ⊎ IsMarkedPage image ckpt ino page at
 
 -- all members of a list differ
 abbrev pub AllDiffer : {X : Type 0} → List X → Type 0

@@ -50,15 +50,15 @@ from_table limit nid place there = (by_order (dec_lt nid limit), λ none. there 
     of_zero false place none = none
 
 -- the table of a sound image can be read
-pub sound_table : (image : Image) (point : Checkpoint) → IsSound image point → HasTable point
-sound_table image point sound = by_order (dec_lt MOST_JOURNAL_ENTRIES (journal_count point.summary))
+pub sound_table : (image : Image) (ckpt : Checkpoint) → IsSound image ckpt → HasTable ckpt
+sound_table image ckpt sound = by_order (dec_lt MOST_JOURNAL_ENTRIES (journal_count ckpt.summary))
   where
     not_end : Journal ≢ VersionEnd
     not_end same = cc
 
-    by_order : Dec (MOST_JOURNAL_ENTRIES < journal_count point.summary) → HasTable point
-    by_order (yes many) = absurd (sound Journal (journal_count point.summary) not_end (many, refl))
-    by_order (no few) = not_less MOST_JOURNAL_ENTRIES (journal_count point.summary) few
+    by_order : Dec (MOST_JOURNAL_ENTRIES < journal_count ckpt.summary) → HasTable ckpt
+    by_order (yes many) = absurd (sound Journal (journal_count ckpt.summary) not_end (many, refl))
+    by_order (no few) = not_less MOST_JOURNAL_ENTRIES (journal_count ckpt.summary) few
 
 pub bad_nat : BadNat ≢ VersionEnd
 bad_nat e = cc
@@ -70,34 +70,34 @@ block_there-same a b at same = by_zero (at == 0) refl
     by_zero true e = refl
     by_zero false e = ap Some (same (differ_of at 0 e))
 
-module _ (image other : Image) (point : Checkpoint) (sound : IsSound image point) (agree : (at : ℕ) → DependsOn image point at → block_at other at ≡ block_at image at) where
-  same_place : (nid : ℕ) → nid < nid_limit point.extent → place_of_nid other point nid ≡ place_of_nid image point nid
+module _ (image other : Image) (ckpt : Checkpoint) (sound : IsSound image ckpt) (agree : (at : ℕ) → DependsOn image ckpt at → block_at other at ≡ block_at image at) where
+  same_place : (nid : ℕ) → nid < nid_limit ckpt.geom → place_of_nid other ckpt nid ≡ place_of_nid image ckpt nid
   unfolding place_of_nid
   same_place nid small =
-      ap (λ block. unwrap_or (journal_find (journal point) nid) (nat_entry block (nat_place_of nid))) (agree (nat_address point.extent (nat_block_of nid) (is_second_copy point.head.bitmap (nat_block_of nid))) (depending.table nid small refl))
+      ap (λ block. unwrap_or (journal_find (journal ckpt) nid) (nat_entry block (nat_place_of nid))) (agree (nat_address ckpt.geom (nat_block_of nid) (is_second_copy ckpt.head.bitmap (nat_block_of nid))) (depending.table nid small refl))
 
-  same_address : (nid : ℕ) → node_address other point nid ≡ node_address image point nid
-  same_address nid = by_order (dec_lt nid (nid_limit point.extent))
+  same_address : (nid : ℕ) → node_address other ckpt nid ≡ node_address image ckpt nid
+  same_address nid = by_order (dec_lt nid (nid_limit ckpt.geom))
     where
-      by_order : Dec (nid < nid_limit point.extent) → node_address other point nid ≡ node_address image point nid
-      by_order (yes small) = ap (λ place. cond ((nid == 0) || nat_le (nid_limit point.extent) nid) 0 place.1) (same_place nid small)
-      by_order (no past) = past_table (nid_limit point.extent) nid (place_of_nid other point nid).1 past ∙ sym (past_table (nid_limit point.extent) nid (place_of_nid image point nid).1 past)
+      by_order : Dec (nid < nid_limit ckpt.geom) → node_address other ckpt nid ≡ node_address image ckpt nid
+      by_order (yes small) = ap (λ place. cond ((nid == 0) || nat_le (nid_limit ckpt.geom) nid) 0 place.1) (same_place nid small)
+      by_order (no past) = past_table (nid_limit ckpt.geom) nid (place_of_nid other ckpt nid).1 past ∙ sym (past_table (nid_limit ckpt.geom) nid (place_of_nid image ckpt nid).1 past)
 
   -- an address in the table of a sound image is that of a node of the base
-  same_at_address : (nid : ℕ) → node_address image point nid ≢ 0 → block_at other (node_address image point nid) ≡ block_at image (node_address image point nid)
-  same_at_address nid there = by_test (same_or_not (block_at other (node_address image point nid)) (block_at image (node_address image point nid)))
+  same_at_address : (nid : ℕ) → node_address image ckpt nid ≢ 0 → block_at other (node_address image ckpt nid) ≡ block_at image (node_address image ckpt nid)
+  same_at_address nid there = by_test (same_or_not (block_at other (node_address image ckpt nid)) (block_at image (node_address image ckpt nid)))
     where
-      by_test : Dec (block_at other (node_address image point nid) ≡ block_at image (node_address image point nid)) → block_at other (node_address image point nid) ≡ block_at image (node_address image point nid)
+      by_test : Dec (block_at other (node_address image ckpt nid) ≡ block_at image (node_address image ckpt nid)) → block_at other (node_address image ckpt nid) ≡ block_at image (node_address image ckpt nid)
       by_test (yes same) = same
       by_test (no differ) =
-          let place = from_table (nid_limit point.extent) nid (place_of_nid image point nid).1 there in
+          let place = from_table (nid_limit ckpt.geom) nid (place_of_nid image ckpt nid).1 there in
           absurd (sound BadNat nid bad_nat (
-            sound_table image point sound,
-            faults.unreached place.0 place.1 (λ ino offset is. differ (agree (node_address image point nid) (depending.node ino offset nid is refl))),
+            sound_table image ckpt sound,
+            faults.unreached place.0 place.1 (λ ino offset is. differ (agree (node_address image ckpt nid) (depending.node ino offset nid is refl))),
           ))
 
-  same_node : (nid : ℕ) → node other point nid ≡ node image point nid
-  same_node nid = ap (block_there other) (same_address nid) ∙ block_there-same image other (node_address image point nid) (same_at_address nid)
+  same_node : (nid : ℕ) → node other ckpt nid ≡ node image ckpt nid
+  same_node nid = ap (block_there other) (same_address nid) ∙ block_there-same image other (node_address image ckpt nid) (same_at_address nid)
 
-  pub same_nodes : chain other point ≡ chain image point → HasSameNodes image other point
+  pub same_nodes : chain other ckpt ≡ chain image ckpt → HasSameNodes image other ckpt
   same_nodes log = record { places = same_place; addresses = same_address; nodes = same_node; log = log }

@@ -30,13 +30,13 @@ together P R S each [] (y ∷ ys) all zip = absurd zip
 together P R S each (x ∷ xs) [] all zip = absurd zip
 together P R S each (x ∷ xs) (y ∷ ys) all zip = (each x y all.0 zip.0, together P R S each xs ys all.1 zip.1)
 
-module _ (image other : Image) (point : Checkpoint) (alike : IsAlike image other point) (base : Rows) where
-  same_there : (place page : ℕ) → place < length (chain image point) → IsTrue (is_marked (block_in (chain image point) place)) → page < page_limit
-      → block_there other (marked_address other point (chain image point) place page) ≡ block_there image (marked_address image point (chain image point) place page)
+module _ (image other : Image) (ckpt : Checkpoint) (alike : IsAlike image other ckpt) (base : Rows) where
+  same_there : (place page : ℕ) → place < length (chain image ckpt) → IsTrue (is_marked (block_in (chain image ckpt) place)) → page < page_limit
+      → block_there other (marked_address other ckpt (chain image ckpt) place page) ≡ block_there image (marked_address image ckpt (chain image ckpt) place page)
   same_there place page small marked within =
-      let at = marked_address image point (chain image point) place page in
-      let block = block_in (chain image point) place in
-      ap (block_there other) (same_marked_address image other point alike.same (chain image point) place page)
+      let at = marked_address image ckpt (chain image ckpt) place page in
+      let block = block_in (chain image ckpt) place in
+      ap (block_there other) (same_marked_address image other ckpt alike.same (chain image ckpt) place page)
       ∙ block_there-same image other at (λ there. alike.pages (footer_ino block) page at (inr (record {
         place = place;
         inode = block;
@@ -47,8 +47,8 @@ module _ (image other : Image) (point : Checkpoint) (alike : IsAlike image other
         there = there;
       })))
 
-  mark_of_other : (place : ℕ) (mark : Mark) → (place < length (chain image point)) × IsTrue (is_marked (block_in (chain image point) place))
-      → IsMark other point base (chain image point) place mark → IsMark image point base (chain image point) place mark
+  mark_of_other : (place : ℕ) (mark : Mark) → (place < length (chain image ckpt)) × IsTrue (is_marked (block_in (chain image ckpt) place))
+      → IsMark other ckpt base (chain image ckpt) place mark → IsMark image ckpt base (chain image ckpt) place mark
   mark_of_other place mark at is = record {
     ino = is.ino;
     row_ino = is.row_ino;
@@ -58,9 +58,9 @@ module _ (image other : Image) (point : Checkpoint) (alike : IsAlike image other
     named = is.named;
   }
 
-  pub marks_of_other : (marks : List Mark) → AreMarks other point base marks → AreMarks image point base marks
+  pub marks_of_other : (marks : List Mark) → AreMarks other ckpt base marks → AreMarks image ckpt base marks
   marks_of_other marks are =
-      together (λ place. (place < length (chain image point)) × IsTrue (is_marked (block_in (chain image point) place))) (IsMark other point base (chain image point)) (IsMark image point base (chain image point)) mark_of_other
-      (marked_places (chain image point)) marks
-      (places_pass (λ place. is_marked (block_in (chain image point) place)) (length (chain image point)) 0 (length (chain image point)) (omega arith))
-      (subst (λ log. AllZip (IsMark other point base log) (marked_places log) marks) alike.same.log are)
+      together (λ place. (place < length (chain image ckpt)) × IsTrue (is_marked (block_in (chain image ckpt) place))) (IsMark other ckpt base (chain image ckpt)) (IsMark image ckpt base (chain image ckpt)) mark_of_other
+      (marked_places (chain image ckpt)) marks
+      (places_pass (λ place. is_marked (block_in (chain image ckpt) place)) (length (chain image ckpt)) 0 (length (chain image ckpt)) (omega arith))
+      (subst (λ log. AllZip (IsMark other ckpt base log) (marked_places log) marks) alike.same.log are)

@@ -19,9 +19,9 @@ use Rattle.f2_image_laws.proofs.AlikeBases.{base_of_other}
 use Rattle.f2_image_laws.proofs.AlikeMarks.{marks_of_other}
 
 -- an ino that stands below the root is in the base
-pub below_is_reached : (image : Image) (point : Checkpoint) (depth ino : ℕ) → IsBelow image point depth ino → IsReached image point ino
-below_is_reached image point _ _ faults.root = bases.root
-below_is_reached image point _ _ (faults.deeper depth directory dentry up has) = bases.below directory dentry (below_is_reached image point depth directory up) has
+pub below_is_reached : (image : Image) (ckpt : Checkpoint) (depth ino : ℕ) → IsBelow image ckpt depth ino → IsReached image ckpt ino
+below_is_reached image ckpt _ _ faults.root = bases.root
+below_is_reached image ckpt _ _ (faults.deeper depth directory dentry up has) = bases.below directory dentry (below_is_reached image ckpt depth directory up) has
 
 -- more than so many have a weaker property
 more_weaker : {X : Type 0} (P Q : X → Type 0) → ((x : X) → P x → Q x) → (most : ℕ) → HasMore X P most → HasMore X Q most
@@ -31,92 +31,92 @@ more_weaker {X = X} P Q weaker most has = record { some = has.some; differ = has
     each [] all = tt
     each (x ∷ xs) all = (weaker x all.0, each xs all.1)
 
-module _ (image other : Image) (point : Checkpoint) (alike : IsAlike image other point) where
-  back : IsAlike other image point
-  back = alike_back image other point alike
+module _ (image other : Image) (ckpt : Checkpoint) (alike : IsAlike image other ckpt) where
+  back : IsAlike other image ckpt
+  back = alike_back image other ckpt alike
 
   -- names that marked blocks bring
-  brings_of_other : (place ino parent : ℕ) (name : List ℕ) → BringsName other point place ino parent name → BringsName image point place ino parent name
+  brings_of_other : (place ino parent : ℕ) (name : List ℕ) → BringsName other ckpt place ino parent name → BringsName image ckpt place ino parent name
   brings_of_other place ino parent name brings = record {
     block = brings.block;
-    marked = marked_of_other image other point alike.same place brings.block brings.marked;
+    marked = marked_of_other image other ckpt alike.same place brings.block brings.marked;
     own = brings.own;
-    fresh = λ reach. brings.fresh (reached_of_other other image point back ino reach);
+    fresh = λ reach. brings.fresh (reached_of_other other image ckpt back ino reach);
     under = brings.under;
     named = brings.named;
   }
 
-  pub conflict_of_other : (ino : ℕ) → IsConflict other point ino → IsConflict image point ino
+  pub conflict_of_other : (ino : ℕ) → IsConflict other ckpt ino → IsConflict image ckpt ino
   conflict_of_other ino (faults.in_base place parent name dentry brings up has is) =
-      let reach = reached_of_other image other point alike parent up in
-      faults.in_base place parent name dentry (brings_of_other place ino parent name brings) reach (dentry_of_other image other point alike parent dentry reach has) is
+      let reach = reached_of_other image other ckpt alike parent up in
+      faults.in_base place parent name dentry (brings_of_other place ino parent name brings) reach (dentry_of_other image other ckpt alike parent dentry reach has) is
   conflict_of_other ino (faults.in_log place earlier more parent name brings too before differ) =
       faults.in_log place earlier more parent name (brings_of_other place ino parent name brings) (brings_of_other earlier more parent name too) before differ
 
-  directory_of_other : (ino : ℕ) → IsDirectoryOf other point ino → IsDirectoryOf image point ino
-  directory_of_other ino is = (reached_of_other image other point alike ino is.0, (is.1.0, inode_of_other image other point alike.same ino Directory is.1.0 is.1.1))
+  directory_of_other : (ino : ℕ) → IsDirectoryOf other ckpt ino → IsDirectoryOf image ckpt ino
+  directory_of_other ino is = (reached_of_other image other ckpt alike ino is.0, (is.1.0, inode_of_other image other ckpt alike.same ino Directory is.1.0 is.1.1))
 
   -- pages past a size
-  past_of_other : (ino page at size : ℕ) → IsPage image point ino page at → IsPastSize other size page at → IsPastSize image size page at
+  past_of_other : (ino page at size : ℕ) → IsPage image ckpt ino page at → IsPastSize other size page at → IsPastSize image size page at
   past_of_other ino page at size is (faults.whole past) = faults.whole past
   past_of_other ino page at size is (faults.partly place small past byte) =
       faults.partly place small past (λ zero. byte (ap (λ block. slice_index block place) (alike.pages ino page at is) ∙ zero))
 
-  below_of_other : (depth ino : ℕ) → IsBelow other point depth ino → IsBelow image point depth ino
+  below_of_other : (depth ino : ℕ) → IsBelow other ckpt depth ino → IsBelow image ckpt depth ino
   below_of_other _ _ faults.root = faults.root
   below_of_other _ _ (faults.deeper depth directory dentry up has) =
       let above = below_of_other depth directory up in
-      faults.deeper depth directory dentry above (dentry_of_other image other point alike directory dentry (below_is_reached image point depth directory above) has)
+      faults.deeper depth directory dentry above (dentry_of_other image other ckpt alike directory dentry (below_is_reached image ckpt depth directory above) has)
 
-  tree_of_other : (tree : Rows) → HasTree other point tree → HasTree image point tree
+  tree_of_other : (tree : Rows) → HasTree other ckpt tree → HasTree image ckpt tree
   tree_of_other tree has = record {
     base = has.base;
     marks = has.marks;
-    is_base = base_of_other image other point alike has.base has.is_base;
-    are_marks = marks_of_other image other point alike has.base has.marks has.are_marks;
+    is_base = base_of_other image other ckpt alike has.base has.is_base;
+    are_marks = marks_of_other image other ckpt alike has.base has.marks has.are_marks;
     is = has.is;
   }
 
-  pub full_of_other : (limit : ℕ) → IsTooFull other point limit → IsTooFull image point limit
+  pub full_of_other : (limit : ℕ) → IsTooFull other ckpt limit → IsTooFull image ckpt limit
   full_of_other limit (faults.base_nodes is many) =
-      faults.base_nodes is (more_weaker (IsSomeNode other point) (IsSomeNode image point) (λ at has. (has.0, node_of_other image other point alike at.0 at.1 has.0 has.1)) limit many)
+      faults.base_nodes is (more_weaker (IsSomeNode other ckpt) (IsSomeNode image ckpt) (λ at has. (has.0, node_of_other image other ckpt alike at.0 at.1 has.0 has.1)) limit many)
   full_of_other limit (faults.base_blocks is many) =
-      faults.base_blocks is (more_weaker (IsBaseBlock other point) (IsBaseBlock image point) (λ at has. (has.0, has.1, base_page_of_other image other point alike has.0 has.1 at has.2)) limit many)
+      faults.base_blocks is (more_weaker (IsBaseBlock other ckpt) (IsBaseBlock image ckpt) (λ at has. (has.0, has.1, base_page_of_other image other ckpt alike has.0 has.1 at has.2)) limit many)
   full_of_other limit (faults.tree_nodes tree has is many) = faults.tree_nodes tree (tree_of_other tree has) is many
   full_of_other limit (faults.tree_blocks tree has is many) = faults.tree_blocks tree (tree_of_other tree has) is many
   full_of_other limit (faults.all_blocks is many) =
-      faults.all_blocks is (more_weaker (IsSomeBlock other point) (IsSomeBlock image point) (λ at has. (has.0, has.1, page_of_other image other point alike has.0 has.1 at has.2)) limit many)
+      faults.all_blocks is (more_weaker (IsSomeBlock other ckpt) (IsSomeBlock image ckpt) (λ at has. (has.0, has.1, page_of_other image other ckpt alike has.0 has.1 at has.2)) limit many)
 
 -- these need both ways
-module _ (image other : Image) (point : Checkpoint) (alike : IsAlike image other point) where
-  pub parent_of_other : (ino : ℕ) → HasNoParent other point ino → HasNoParent image point ino
+module _ (image other : Image) (ckpt : Checkpoint) (alike : IsAlike image other ckpt) where
+  pub parent_of_other : (ino : ℕ) → HasNoParent other ckpt ino → HasNoParent image ckpt ino
   parent_of_other ino has = record {
     place = has.place;
     parent = has.parent;
     name = has.name;
-    brings = brings_of_other image other point alike has.place ino has.parent has.name has.brings;
-    none = λ is. has.none (directory_of_other other image point (alike_back image other point alike) has.parent is);
+    brings = brings_of_other image other ckpt alike has.place ino has.parent has.name has.brings;
+    none = λ is. has.none (directory_of_other other image ckpt (alike_back image other ckpt alike) has.parent is);
   }
 
-  reach : (ino : ℕ) → IsReached other point ino → IsReached image point ino
-  reach = reached_of_other image other point alike
+  reach : (ino : ℕ) → IsReached other ckpt ino → IsReached image ckpt ino
+  reach = reached_of_other image other ckpt alike
 
-  dentry_at : (directory page slot : ℕ) (dentry : Dentry) → IsReached other point directory → HasDentryAt other point directory page slot dentry → HasDentryAt image point directory page slot dentry
-  dentry_at directory page slot dentry up has = dentry_at_of_other image other point alike directory page slot dentry (reach directory up) has
+  dentry_at : (directory page slot : ℕ) (dentry : Dentry) → IsReached other ckpt directory → HasDentryAt other ckpt directory page slot dentry → HasDentryAt image ckpt directory page slot dentry
+  dentry_at directory page slot dentry up has = dentry_at_of_other image other ckpt alike directory page slot dentry (reach directory up) has
 
-  has_name : (directory : ℕ) (dentry : Dentry) → IsReached other point directory → HasDentry other point directory dentry → HasDentry image point directory dentry
-  has_name directory dentry up has = dentry_of_other image other point alike directory dentry (reach directory up) has
+  has_name : (directory : ℕ) (dentry : Dentry) → IsReached other ckpt directory → HasDentry other ckpt directory dentry → HasDentry image ckpt directory dentry
+  has_name directory dentry up has = dentry_of_other image other ckpt alike directory dentry (reach directory up) has
 
-  has_inode : (ino : ℕ) (kind : Kind) (inode : List ℕ) → IsInode other point ino kind inode → IsInode image point ino kind inode
-  has_inode = inode_of_other image other point alike.same
+  has_inode : (ino : ℕ) (kind : Kind) (inode : List ℕ) → IsInode other ckpt ino kind inode → IsInode image ckpt ino kind inode
+  has_inode = inode_of_other image other ckpt alike.same
 
-  marked : (place : ℕ) (block : List ℕ) → IsMarkedAt other point place block → IsMarkedAt image point place block
-  marked = marked_of_other image other point alike.same
+  marked : (place : ℕ) (block : List ℕ) → IsMarkedAt other ckpt place block → IsMarkedAt image ckpt place block
+  marked = marked_of_other image other ckpt alike.same
 
-  address : (place page at : ℕ) → marked_address other point (chain other point) place page ≡ at → marked_address image point (chain image point) place page ≡ at
-  address place page at is = sym (ap (λ log. marked_address other point log place page) alike.same.log ∙ same_marked_address image other point alike.same (chain image point) place page) ∙ is
+  address : (place page at : ℕ) → marked_address other ckpt (chain other ckpt) place page ≡ at → marked_address image ckpt (chain image ckpt) place page ≡ at
+  address place page at is = sym (ap (λ log. marked_address other ckpt log place page) alike.same.log ∙ same_marked_address image other ckpt alike.same (chain image ckpt) place page) ∙ is
 
-  pub tree_fault_of_other : (ino : ℕ) → IsBadTree other point ino → IsBadTree image point ino
+  pub tree_fault_of_other : (ino : ℕ) → IsBadTree other ckpt ino → IsBadTree image ckpt ino
   tree_fault_of_other ino (faults.too_low directory d up has is small) = faults.too_low directory d (reach directory up) (has_name directory d up has) is small
   tree_fault_of_other ino (faults.twice directory page slot more other_page place a b up too has has_too differ is is_too) =
       faults.twice directory page slot more other_page place a b (reach directory up) (reach more too) (dentry_at directory page slot a up has) (dentry_at more other_page place b too has_too) differ is is_too
@@ -125,16 +125,16 @@ module _ (image other : Image) (point : Checkpoint) (alike : IsAlike image other
   tree_fault_of_other ino (faults.same_name directory page slot more place a b up has has_too differ same is) =
       faults.same_name directory page slot more place a b (reach directory up) (dentry_at directory page slot a up has) (dentry_at directory more place b up has_too) differ same is
   tree_fault_of_other ino (faults.bad_name directory d up has bad is) = faults.bad_name directory d (reach directory up) (has_name directory d up has) bad is
-  tree_fault_of_other ino (faults.too_deep depth kind block is is_inode deep) = faults.too_deep depth kind block (below_of_other image other point alike depth ino is) (has_inode ino kind block is_inode) deep
+  tree_fault_of_other ino (faults.too_deep depth kind block is is_inode deep) = faults.too_deep depth kind block (below_of_other image other ckpt alike depth ino is) (has_inode ino kind block is_inode) deep
   tree_fault_of_other ino (faults.past_size page at block up is_inode is past) =
-      let here = base_page_of_other image other point alike ino page at is in
-      faults.past_size page at block (reach ino up) (has_inode ino Regular block is_inode) here (past_of_other image other point alike ino page at _ (inl here) past)
+      let here = base_page_of_other image other ckpt alike ino page at is in
+      faults.past_size page at block (reach ino up) (has_inode ino Regular block is_inode) here (past_of_other image other ckpt alike ino page at _ (inl here) past)
   tree_fault_of_other ino (faults.marked_past_size place page at block is own within here there past) =
-      let is_page : IsMarkedPage image point ino page at = record { place = place; inode = block; marked = marked place block is; own = own; within = within; address = address place page at here; there = there } in
-      faults.marked_past_size place page at block (marked place block is) own within (address place page at here) there (past_of_other image other point alike ino page at _ (inr is_page) past)
+      let is_page : IsMarkedPage image ckpt ino page at = record { place = place; inode = block; marked = marked place block is; own = own; within = within; address = address place page at here; there = there } in
+      faults.marked_past_size place page at block (marked place block is) own within (address place page at here) there (past_of_other image other ckpt alike ino page at _ (inr is_page) past)
   tree_fault_of_other ino (faults.marked_directory place block is own (inl kind)) = faults.marked_directory place block (marked place block is) own (inl kind)
-  tree_fault_of_other ino (faults.marked_directory place block is own (inr directory)) = faults.marked_directory place block (marked place block is) own (inr (directory_of_other image other point alike ino directory))
+  tree_fault_of_other ino (faults.marked_directory place block is own (inr directory)) = faults.marked_directory place block (marked place block is) own (inr (directory_of_other image other ckpt alike ino directory))
   tree_fault_of_other ino (faults.unbound place block is own none unmarked) =
-      faults.unbound place block (marked place block is) own (λ here. none (reached_of_other other image point (alike_back image other point alike) ino here)) unmarked
-  tree_fault_of_other ino (faults.marked_bad_name place parent name brings bad) = faults.marked_bad_name place parent name (brings_of_other image other point alike place ino parent name brings) bad
+      faults.unbound place block (marked place block is) own (λ here. none (reached_of_other other image ckpt (alike_back image other ckpt alike) ino here)) unmarked
+  tree_fault_of_other ino (faults.marked_bad_name place parent name brings bad) = faults.marked_bad_name place parent name (brings_of_other image other ckpt alike place ino parent name brings) bad
   tree_fault_of_other ino (faults.root_file block is_inode is) = faults.root_file block (has_inode _ Regular block is_inode) is

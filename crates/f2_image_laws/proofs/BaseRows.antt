@@ -28,66 +28,66 @@ use Rattle.f2_image_laws.proofs.Sound.{no_bad_inode, no_bad_tree, page_is_block}
 use Rattle.f2_image_laws.proofs.Pages.{good_pages}
 use Rattle.f2_image_laws.proofs.Numbers.{not_less}
 
-module _ (image : Image) (point : Checkpoint) (sound : IsSound image point) (base : Rows) (is_base : IsBase image point base) where
+module _ (image : Image) (ckpt : Checkpoint) (sound : IsSound image ckpt) (base : Rows) (is_base : IsBase image ckpt base) where
   -- the base has a row for each ino that is reached, and no other
-  pub row_of : (ino : ℕ) → IsReached image point ino → (row : Row) × (map.get base ino ≡ Some row)
+  pub row_of : (ino : ℕ) → IsReached image ckpt ino → (row : Row) × (map.get base ino ≡ Some row)
   row_of _ bases.root = (is_base.root.row, is_base.root.there)
   row_of _ (bases.below directory dentry up has) = let at = is_base.names directory dentry up has in (at.row, at.there)
 
-  pub not_reached : (ino : ℕ) → map.get base ino ≡ None → ¬ (IsReached image point ino)
+  pub not_reached : (ino : ℕ) → map.get base ino ≡ None → ¬ (IsReached image ckpt ino)
   not_reached ino none reach = let found = row_of ino reach in none-some found.0 (sym none ∙ found.1)
 
   -- an ino of the base is the root's or above it, and in the table
-  pub dentry_above : (directory : ℕ) (dentry : Dentry) → IsReached image point directory → HasDentry image point directory dentry → 4 ≤ dentry.ino
+  pub dentry_above : (directory : ℕ) (dentry : Dentry) → IsReached image ckpt directory → HasDentry image ckpt directory dentry → 4 ≤ dentry.ino
   dentry_above directory dentry up has = by_order (dec_lt dentry.ino 4)
     where
       by_order : Dec (dentry.ino < 4) → 4 ≤ dentry.ino
-      by_order (yes small) = absurd (no_bad_tree image point sound dentry.ino (faults.too_low directory dentry up has refl small))
+      by_order (yes small) = absurd (no_bad_tree image ckpt sound dentry.ino (faults.too_low directory dentry up has refl small))
       by_order (no large) = omega (arith, large)
 
-  above_root : (ino : ℕ) → IsReached image point ino → ROOT ≤ ino
+  above_root : (ino : ℕ) → IsReached image ckpt ino → ROOT ≤ ino
   above_root _ bases.root = omega arith
   above_root _ (bases.below directory dentry up has) = let above = dentry_above directory dentry up has in omega (arith, above)
 
-  pub base_number : (ino : ℕ) (row : Row) → map.get base ino ≡ Some row → (ROOT ≤ ino) × (ino < nid_limit point.extent)
+  pub base_number : (ino : ℕ) (row : Row) → map.get base ino ≡ Some row → (ROOT ≤ ino) × (ino < nid_limit ckpt.geom)
   base_number ino row there =
       let at = is_base.rows ino row there in
-      (above_root ino at.reached, node_in_table image point ino at.inode at.is.there)
+      (above_root ino at.reached, node_in_table image ckpt ino at.inode at.is.there)
 
   -- the kind of a row is that of its inode
-  pub kind_of : (ino : ℕ) (row : Row) (kind : Kind) (inode : List ℕ) → map.get base ino ≡ Some row → IsInode image point ino kind inode → row.kind ≡ kind
+  pub kind_of : (ino : ℕ) (row : Row) (kind : Kind) (inode : List ℕ) → map.get base ino ≡ Some row → IsInode image ckpt ino kind inode → row.kind ≡ kind
   kind_of ino row kind inode there is =
       let at = is_base.rows ino row there in
-      let same : at.inode ≡ inode = same_inode image point ino row.kind kind at.inode inode at.is is in
+      let same : at.inode ≡ inode = same_inode image ckpt ino row.kind kind at.inode inode at.is is in
       same_Some row.kind kind (sym at.is.is_kind ∙ ap inode_kind same ∙ is.is_kind)
 
   -- a directory of the base
-  pub directory_row : (ino : ℕ) → IsDirectoryOf image point ino → (up : Row) × (map.get base ino ≡ Some up) × (up.kind ≡ Directory)
+  pub directory_row : (ino : ℕ) → IsDirectoryOf image ckpt ino → (up : Row) × (map.get base ino ≡ Some up) × (up.kind ≡ Directory)
   directory_row ino is = let found = row_of ino is.0 in (found.0, found.1, kind_of ino found.0 Directory is.1.0 found.1 is.1.1)
 
-  pub is_directory : (ino : ℕ) (row : Row) → map.get base ino ≡ Some row → row.kind ≡ Directory → IsDirectoryOf image point ino
-  is_directory ino row there directory = let at = is_base.rows ino row there in (at.reached, (at.inode, subst (λ kind. IsInode image point ino kind at.inode) directory at.is))
+  pub is_directory : (ino : ℕ) (row : Row) → map.get base ino ≡ Some row → row.kind ≡ Directory → IsDirectoryOf image ckpt ino
+  is_directory ino row there directory = let at = is_base.rows ino row there in (at.reached, (at.inode, subst (λ kind. IsInode image ckpt ino kind at.inode) directory at.is))
 
   -- the pages of a row are good
-  module _ (blocks : All IsBlock image) (sized : IsSized image point.extent) where
-    file_pages : (ino : ℕ) (row : Row) → IsBaseRow image point ino row → row.kind ≡ Regular → HasGoodPages SIZE_LIMIT row
-    file_pages ino row at regular = good_pages image row (page_address image point at.inode) (record {
+  module _ (blocks : All IsBlock image) (sized : IsSized image ckpt.geom) where
+    file_pages : (ino : ℕ) (row : Row) → IsBaseRow image ckpt ino row → row.kind ≡ Regular → HasGoodPages SIZE_LIMIT row
+    file_pages ino row at regular = good_pages image row (page_address image ckpt at.inode) (record {
       regular = regular;
       size = size;
       within = content.2;
       blocks = content.1;
-      whole = λ page small there. page_is_block image point sound blocks sized ino page (page_address image point at.inode page) (inl (is_page page small there));
-      before = λ page small there past. no_bad_tree image point sound ino (faults.past_size page (page_address image point at.inode page) at.inode at.reached is (is_page page small there)
-          (subst (λ n. IsPastSize image n page (page_address image point at.inode page)) content.0 past));
+      whole = λ page small there. page_is_block image ckpt sound blocks sized ino page (page_address image ckpt at.inode page) (inl (is_page page small there));
+      before = λ page small there past. no_bad_tree image ckpt sound ino (faults.past_size page (page_address image ckpt at.inode page) at.inode at.reached is (is_page page small there)
+          (subst (λ n. IsPastSize image n page (page_address image ckpt at.inode page)) content.0 past));
     })
       where
-        is : IsInode image point ino Regular at.inode
-        is = subst (λ kind. IsInode image point ino kind at.inode) regular at.is
+        is : IsInode image ckpt ino Regular at.inode
+        is = subst (λ kind. IsInode image ckpt ino kind at.inode) regular at.is
 
-        content : HasContent image point at.inode Regular row
-        content = subst (λ kind. HasContent image point at.inode kind row) regular at.content
+        content : HasContent image ckpt at.inode Regular row
+        content = subst (λ kind. HasContent image ckpt at.inode kind row) regular at.content
 
-        is_page : (page : ℕ) → page < page_limit → page_address image point at.inode page ≢ 0 → IsBasePage image point ino page (page_address image point at.inode page)
+        is_page : (page : ℕ) → page < page_limit → page_address image ckpt at.inode page ≢ 0 → IsBasePage image ckpt ino page (page_address image ckpt at.inode page)
         is_page page small there = record {
           reached = at.reached;
           kind = Regular;
@@ -102,7 +102,7 @@ module _ (image : Image) (point : Checkpoint) (sound : IsSound image point) (bas
         size = by_order (dec_lt SIZE_LIMIT (inode_of at.inode).size)
           where
             by_order : Dec (SIZE_LIMIT < (inode_of at.inode).size) → row.size ≤ SIZE_LIMIT
-            by_order (yes large) = absurd (no_bad_inode image point sound _ (faults.in_base (sound_table image point sound) ino at.inode at.reached is.there refl (inr (inr large))))
+            by_order (yes large) = absurd (no_bad_inode image ckpt sound _ (faults.in_base (sound_table image ckpt sound) ino at.inode at.reached is.there refl (inr (inr large))))
             by_order (no small) = subst (λ n. n ≤ SIZE_LIMIT) (sym content.0) (not_less SIZE_LIMIT (inode_of at.inode).size small)
 
     pub base_pages : (ino : ℕ) (row : Row) → map.get base ino ≡ Some row → HasGoodPages SIZE_LIMIT row
@@ -112,7 +112,7 @@ module _ (image : Image) (point : Checkpoint) (sound : IsSound image point) (bas
         by_kind Regular is = file_pages ino row (is_base.rows ino row there) is
         by_kind Directory is =
             let at = is_base.rows ino row there in
-            let content : HasContent image point at.inode Directory row = subst (λ kind. HasContent image point at.inode kind row) is at.content in
+            let content : HasContent image ckpt at.inode Directory row = subst (λ kind. HasContent image ckpt at.inode kind row) is at.content in
             record {
               directory = λ _. content;
               size = subst (λ n. n ≤ SIZE_LIMIT) (sym content.0) (zero_least SIZE_LIMIT);

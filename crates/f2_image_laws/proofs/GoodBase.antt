@@ -26,9 +26,9 @@ use Rattle.f2_image_laws.proofs.Sound.{no_bad_tree}
 use Rattle.f2_image_laws.proofs.BaseRows.{dentry_above, directory_row, base_pages}
 use Rattle.f2_image_laws.proofs.Numbers.{not_less}
 
-module _ (image : Image) (point : Checkpoint) (sound : IsSound image point) (base : Rows) (is_base : IsBase image point base) where
-  name_of : (ino : ℕ) (row : Row) → map.get base ino ≡ Some row → ino ≢ ROOT → HasName image point ino row
-  name_of = row_has_name image point base is_base
+module _ (image : Image) (ckpt : Checkpoint) (sound : IsSound image ckpt) (base : Rows) (is_base : IsBase image ckpt base) where
+  name_of : (ino : ℕ) (row : Row) → map.get base ino ≡ Some row → ino ≢ ROOT → HasName image ckpt ino row
+  name_of = row_has_name image ckpt base is_base
 
   -- the root
   root_kind : is_base.root.row.kind ≡ Directory
@@ -38,7 +38,7 @@ module _ (image : Image) (point : Checkpoint) (sound : IsSound image point) (bas
       by_kind Directory e = e
       by_kind Regular e =
           let at = is_base.rows ROOT is_base.root.row is_base.root.there in
-          absurd (no_bad_tree image point sound ROOT (faults.root_file at.inode (subst (λ kind. IsInode image point ROOT kind at.inode) e at.is) refl))
+          absurd (no_bad_tree image ckpt sound ROOT (faults.root_file at.inode (subst (λ kind. IsInode image ckpt ROOT kind at.inode) e at.is) refl))
 
   is_root : IsRoot is_base.root.row
   is_root = record { ino = (is_base.rows ROOT is_base.root.row is_base.root.there).own; kind = root_kind; parent = is_base.root.parent; name = is_base.root.named }
@@ -51,8 +51,8 @@ module _ (image : Image) (point : Checkpoint) (sound : IsSound image point) (bas
       (root.row, ap (map.get base) (ap (λ (r : Row). r.parent) (sym same) ∙ root.parent) ∙ root.there, root_kind)
   parent_of ino row there (no other) = of_dentry (name_of ino row there other)
     where
-      of_dentry : HasName image point ino row → (up : Row) × (map.get base row.parent ≡ Some up) × (up.kind ≡ Directory)
-      of_dentry name = let has = name.has.2 in directory_row image point sound base is_base row.parent (name.up, (has.block.inode, has.block.is))
+      of_dentry : HasName image ckpt ino row → (up : Row) × (map.get base row.parent ≡ Some up) × (up.kind ≡ Directory)
+      of_dentry name = let has = name.has.2 in directory_row image ckpt sound base is_base row.parent (name.up, (has.block.inode, has.block.is))
 
   -- under a good name
   good_name : (ino : ℕ) (row : Row) → map.get base ino ≡ Some row → ino ≢ ROOT → IsTrue (is_good_name row.name)
@@ -62,36 +62,36 @@ module _ (image : Image) (point : Checkpoint) (sound : IsSound image point) (bas
       by_test true e = e
       by_test false e =
           let name = name_of ino row there other in
-          absurd (no_bad_tree image point sound ino (faults.bad_name row.parent name.dentry name.up name.has (ap is_good_name name.named ∙ e) name.is))
+          absurd (no_bad_tree image ckpt sound ino (faults.bad_name row.parent name.dentry name.up name.has (ap is_good_name name.named ∙ e) name.is))
 
   -- of its own
-  same_ino : (i j directory : ℕ) (a b : Dentry) → IsReached image point directory → HasDentry image point directory a → HasDentry image point directory b → a.name ≡ b.name → a.ino ≡ i → b.ino ≡ j → i ≡ j
+  same_ino : (i j directory : ℕ) (a b : Dentry) → IsReached image ckpt directory → HasDentry image ckpt directory a → HasDentry image ckpt directory b → a.name ≡ b.name → a.ino ≡ i → b.ino ≡ j → i ≡ j
   same_ino i j directory a b up (page, slot, p) (more, place, q) named is_a is_b = by_place (ℕ_discrete page more) (ℕ_discrete slot place)
     where
       differ : (page ≢ more) ⊎ (slot ≢ place) → ⊥
-      differ apart = no_bad_tree image point sound i (faults.same_name directory page slot more place a b up p q apart named is_a)
+      differ apart = no_bad_tree image ckpt sound i (faults.same_name directory page slot more place a b up p q apart named is_a)
 
       by_place : Dec (page ≡ more) → Dec (slot ≡ place) → i ≡ j
       by_place (no apart) s = absurd (differ (inl apart))
       by_place (yes e) (no apart) = absurd (differ (inr apart))
       by_place (yes e) (yes f) =
-          let moved : HasDentryAt image point directory more place a = subst (λ k. HasDentryAt image point directory more k a) f (subst (λ k. HasDentryAt image point directory k slot a) e p) in
-          sym is_a ∙ ap (λ (d : Dentry). d.ino) (same_dentry image point directory more place a b moved q) ∙ is_b
+          let moved : HasDentryAt image ckpt directory more place a = subst (λ k. HasDentryAt image ckpt directory more k a) f (subst (λ k. HasDentryAt image ckpt directory k slot a) e p) in
+          sym is_a ∙ ap (λ (d : Dentry). d.ino) (same_dentry image ckpt directory more place a b moved q) ∙ is_b
 
   apart : (i j : ℕ) (a b : Row) → map.get base i ≡ Some a → map.get base j ≡ Some b → i ≢ ROOT → j ≢ ROOT → a.parent ≡ b.parent → a.name ≡ b.name → i ≡ j
   apart i j a b p q other_i other_j parents names =
       let n = name_of i a p other_i in
       let m = name_of j b q other_j in
-      same_ino i j a.parent n.dentry m.dentry n.up n.has (subst (λ d. HasDentry image point d m.dentry) (sym parents) m.has) (n.named ∙ names ∙ sym m.named) n.is m.is
+      same_ino i j a.parent n.dentry m.dentry n.up n.has (subst (λ d. HasDentry image ckpt d m.dentry) (sym parents) m.has) (n.named ∙ names ∙ sym m.named) n.is m.is
 
   -- and not too deep
-  at_depth : (depth ino : ℕ) → IsBelow image point depth ino → IsAtDepth base depth ino
+  at_depth : (depth ino : ℕ) → IsBelow image ckpt depth ino → IsAtDepth base depth ino
   at_depth _ _ faults.root = refl
   at_depth _ _ (faults.deeper depth directory dentry up has) =
-      let reach = below_is_reached image point depth directory up in
+      let reach = below_is_reached image ckpt depth directory up in
       let at = is_base.names directory dentry reach has in
       let above : IsAtDepth base depth at.row.parent = subst (IsAtDepth base depth) (sym at.parent) (at_depth depth directory up) in
-      let whole : IsAtDepth base (suc depth) dentry.ino = ((λ root. not_root dentry.ino (dentry_above image point sound base is_base directory dentry reach has) root), (at.row, at.there, above)) in
+      let whole : IsAtDepth base (suc depth) dentry.ino = ((λ root. not_root dentry.ino (dentry_above image ckpt sound base is_base directory dentry reach has) root), (at.row, at.there, above)) in
       subst (λ d. IsAtDepth base d dentry.ino) (sym (add-one depth)) whole
     where
       not_root : (n : ℕ) → 4 ≤ n → n ≡ 3 → ⊥
@@ -100,14 +100,14 @@ module _ (image : Image) (point : Checkpoint) (sound : IsSound image point) (bas
   reached : (ino : ℕ) (row : Row) → map.get base ino ≡ Some row → (depth : ℕ) × (depth ≤ most_depth row.kind) × IsAtDepth base depth ino
   reached ino row there = (below.0, by_order (dec_lt (most_depth row.kind) below.0), at_depth below.0 ino below.1)
     where
-      below : (depth : ℕ) × IsBelow image point depth ino
-      below = some_depth image point ino (is_base.rows ino row there).reached
+      below : (depth : ℕ) × IsBelow image ckpt depth ino
+      below = some_depth image ckpt ino (is_base.rows ino row there).reached
 
       by_order : Dec (most_depth row.kind < below.0) → below.0 ≤ most_depth row.kind
-      by_order (yes deep) = let at = is_base.rows ino row there in absurd (no_bad_tree image point sound ino (faults.too_deep below.0 row.kind at.inode below.1 at.is deep))
+      by_order (yes deep) = let at = is_base.rows ino row there in absurd (no_bad_tree image ckpt sound ino (faults.too_deep below.0 row.kind at.inode below.1 at.is deep))
       by_order (no fine) = not_less (most_depth row.kind) below.0 fine
 
-  pub good_base : All IsBlock image → IsSized image point.extent → IsGoodTree SIZE_LIMIT base
+  pub good_base : All IsBlock image → IsSized image ckpt.geom → IsGoodTree SIZE_LIMIT base
   good_base blocks sized = record {
     root = (is_base.root.row, is_base.root.there, is_root);
     keyed = λ ino row there. (is_base.rows ino row there).own;
@@ -115,5 +115,5 @@ module _ (image : Image) (point : Checkpoint) (sound : IsSound image point) (bas
     names = good_name;
     apart = apart;
     reached = reached;
-    pages = base_pages image point sound base is_base blocks sized;
+    pages = base_pages image ckpt sound base is_base blocks sized;
   }

@@ -32,66 +32,66 @@ first_true : (a b : Bool) → (a && b) ≡ true → a ≡ true
 first_true true b e = refl
 first_true false b e = absurd (cc)
 
-module _ (image : Image) (point : Checkpoint) (sound : IsSound image point) (base : Rows) (is_base : IsBase image point base)
-    (place : ℕ) (mark : Mark) (is : IsMark image point base (chain image point) place mark) (marked : IsMarkedAt image point place (block_in (chain image point) place)) where
-  own : footer_ino (block_in (chain image point) place) ≡ mark.ino
+module _ (image : Image) (ckpt : Checkpoint) (sound : IsSound image ckpt) (base : Rows) (is_base : IsBase image ckpt base)
+    (place : ℕ) (mark : Mark) (is : IsMark image ckpt base (chain image ckpt) place mark) (marked : IsMarkedAt image ckpt place (block_in (chain image ckpt) place)) where
+  own : footer_ino (block_in (chain image ckpt) place) ≡ mark.ino
   own = sym is.ino
 
   -- only files are marked
-  pub no_directory : ¬ (IsDirectoryOf image point mark.ino)
-  no_directory directory = no_bad_tree image point sound mark.ino (faults.marked_directory place (block_in (chain image point) place) marked own (inr directory))
+  pub no_directory : ¬ (IsDirectoryOf image ckpt mark.ino)
+  no_directory directory = no_bad_tree image ckpt sound mark.ino (faults.marked_directory place (block_in (chain image ckpt) place) marked own (inr directory))
 
   pub regular : mark.row.kind ≡ Regular
   regular = by_kind mark.row.kind refl
     where
       by_kind : (kind : Kind) → mark.row.kind ≡ kind → mark.row.kind ≡ Regular
       by_kind Regular e = e
-      by_kind Directory e = absurd (no_bad_tree image point sound mark.ino (faults.marked_directory place (block_in (chain image point) place) marked own (inl (is.kind ∙ ap Some e))))
+      by_kind Directory e = absurd (no_bad_tree image ckpt sound mark.ino (faults.marked_directory place (block_in (chain image ckpt) place) marked own (inl (is.kind ∙ ap Some e))))
 
   -- an ino that a row can have
-  taken : IsTaken image point place (block_in (chain image point) place)
+  taken : IsTaken image ckpt place (block_in (chain image ckpt) place)
   taken = reached.marked marked
 
-  own_nid : footer_nid (block_in (chain image point) place) ≡ mark.ino
-  own_nid = by_test (ℕ_discrete (footer_nid (block_in (chain image point) place)) (footer_ino (block_in (chain image point) place)))
+  own_nid : footer_nid (block_in (chain image ckpt) place) ≡ mark.ino
+  own_nid = by_test (ℕ_discrete (footer_nid (block_in (chain image ckpt) place)) (footer_ino (block_in (chain image ckpt) place)))
     where
-      offset : footer_offset (block_in (chain image point) place) ≡ 0
-      offset = same_of (footer_offset (block_in (chain image point) place)) 0 (first_true (footer_offset (block_in (chain image point) place) == 0) (has_fsync_mark (block_in (chain image point) place)) marked.marked)
+      offset : footer_offset (block_in (chain image ckpt) place) ≡ 0
+      offset = same_of (footer_offset (block_in (chain image ckpt) place)) 0 (first_true (footer_offset (block_in (chain image ckpt) place) == 0) (has_fsync_mark (block_in (chain image ckpt) place)) marked.marked)
 
-      by_test : Dec (footer_nid (block_in (chain image point) place) ≡ footer_ino (block_in (chain image point) place)) → footer_nid (block_in (chain image point) place) ≡ mark.ino
+      by_test : Dec (footer_nid (block_in (chain image ckpt) place) ≡ footer_ino (block_in (chain image ckpt) place)) → footer_nid (block_in (chain image ckpt) place) ≡ mark.ino
       by_test (yes same) = same ∙ own
-      by_test (no differ) = absurd (no_bad_nat image point sound _ (faults.no_ino place (block_in (chain image point) place) taken refl offset differ))
+      by_test (no differ) = absurd (no_bad_nat image ckpt sound _ (faults.no_ino place (block_in (chain image ckpt) place) taken refl offset differ))
 
   pub above : 4 ≤ mark.ino
   above = by_order (dec_lt mark.ino 4)
     where
       by_order : Dec (mark.ino < 4) → 4 ≤ mark.ino
-      by_order (yes small) = absurd (no_bad_nat image point sound mark.ino (faults.no_nid place (block_in (chain image point) place) taken own_nid (inl small)))
+      by_order (yes small) = absurd (no_bad_nat image ckpt sound mark.ino (faults.no_nid place (block_in (chain image ckpt) place) taken own_nid (inl small)))
       by_order (no large) = omega (arith, large)
 
-  pub below : mark.ino < nid_limit point.extent
-  below = by_order (dec_lt mark.ino (nid_limit point.extent))
+  pub below : mark.ino < nid_limit ckpt.geom
+  below = by_order (dec_lt mark.ino (nid_limit ckpt.geom))
     where
-      by_order : Dec (mark.ino < nid_limit point.extent) → mark.ino < nid_limit point.extent
+      by_order : Dec (mark.ino < nid_limit ckpt.geom) → mark.ino < nid_limit ckpt.geom
       by_order (yes small) = small
-      by_order (no past) = absurd (no_bad_nat image point sound mark.ino (faults.no_nid place (block_in (chain image point) place) taken own_nid (inr (not_less mark.ino (nid_limit point.extent) past))))
+      by_order (no past) = absurd (no_bad_nat image ckpt sound mark.ino (faults.no_nid place (block_in (chain image ckpt) place) taken own_nid (inr (not_less mark.ino (nid_limit ckpt.geom) past))))
 
   -- the name of a file of the base stays, another one's comes with the mark
   pub keeps : (old : Row) → map.get base mark.ino ≡ Some old → (mark.row.parent ≡ old.parent) × (mark.row.name ≡ old.name)
-  keeps old there = subst (IsNamed base (block_in (chain image point) place) mark.row) there is.named
+  keeps old there = subst (IsNamed base (block_in (chain image ckpt) place) mark.row) there is.named
 
-  pub brings : map.get base mark.ino ≡ None → BringsName image point place mark.ino mark.row.parent mark.row.name
+  pub brings : map.get base mark.ino ≡ None → BringsName image ckpt place mark.ino mark.row.parent mark.row.name
   brings none = record {
-    block = block_in (chain image point) place;
+    block = block_in (chain image ckpt) place;
     marked = marked;
     own = own;
-    fresh = not_reached image point sound base is_base mark.ino none;
+    fresh = not_reached image ckpt sound base is_base mark.ino none;
     under = sym named.0;
     named = sym named.1;
   }
     where
-      named : IsNamed base (block_in (chain image point) place) mark.row None
-      named = subst (IsNamed base (block_in (chain image point) place) mark.row) none is.named
+      named : IsNamed base (block_in (chain image ckpt) place) mark.row None
+      named = subst (IsNamed base (block_in (chain image ckpt) place) mark.row) none is.named
 
   -- it is a good one, in a directory of the base
   pub brings_good : map.get base mark.ino ≡ None → IsTrue (is_good_name mark.row.name)
@@ -99,13 +99,13 @@ module _ (image : Image) (point : Checkpoint) (sound : IsSound image point) (bas
     where
       by_test : (b : Bool) → is_good_name mark.row.name ≡ b → is_good_name mark.row.name ≡ true
       by_test true e = e
-      by_test false e = absurd (no_bad_tree image point sound mark.ino (faults.marked_bad_name place mark.row.parent mark.row.name (brings none) e))
+      by_test false e = absurd (no_bad_tree image ckpt sound mark.ino (faults.marked_bad_name place mark.row.parent mark.row.name (brings none) e))
 
   pub brings_under : map.get base mark.ino ≡ None → (up : Row) × (map.get base mark.row.parent ≡ Some up) × (up.kind ≡ Directory)
   brings_under none = by_row (map.get base mark.row.parent) refl
     where
-      has_one : ¬ ¬ (IsDirectoryOf image point mark.row.parent)
-      has_one lacks = none_without_parent image point sound mark.ino (record {
+      has_one : ¬ ¬ (IsDirectoryOf image ckpt mark.row.parent)
+      has_one lacks = none_without_parent image ckpt sound mark.ino (record {
         place = place;
         parent = mark.row.parent;
         name = mark.row.name;
@@ -116,31 +116,31 @@ module _ (image : Image) (point : Checkpoint) (sound : IsSound image point) (bas
       by_kind : (up : Row) → map.get base mark.row.parent ≡ Some up → (kind : Kind) → up.kind ≡ kind → (up : Row) × (map.get base mark.row.parent ≡ Some up) × (up.kind ≡ Directory)
       by_kind up there Directory e = (up, there, e)
       by_kind up there Regular e = absurd (has_one (λ directory. (
-          let found = directory_row image point sound base is_base mark.row.parent directory in
+          let found = directory_row image ckpt sound base is_base mark.row.parent directory in
           let same : up ≡ found.0 = same_Some up found.0 (sym there ∙ found.1) in
           kinds_differ (sym e ∙ ap (λ (r : Row). r.kind) same ∙ found.2)
           )))
 
       by_row : (o : Option Row) → map.get base mark.row.parent ≡ o → (up : Row) × (map.get base mark.row.parent ≡ Some up) × (up.kind ≡ Directory)
-      by_row None e = absurd (has_one (λ directory. not_reached image point sound base is_base mark.row.parent e directory.0))
+      by_row None e = absurd (has_one (λ directory. not_reached image ckpt sound base is_base mark.row.parent e directory.0))
       by_row (Some up) e = by_kind up e up.kind refl
 
   -- its pages are good
-  pub mark_pages : All IsBlock image → IsSized image point.extent → HasGoodPages SIZE_LIMIT mark.row
-  mark_pages blocks sized = good_pages image mark.row (λ page. marked_address image point (chain image point) place page) (record {
+  pub mark_pages : All IsBlock image → IsSized image ckpt.geom → HasGoodPages SIZE_LIMIT mark.row
+  mark_pages blocks sized = good_pages image mark.row (λ page. marked_address image ckpt (chain image ckpt) place page) (record {
     regular = regular;
     size = size;
     within = is.pages.within;
     blocks = is.pages.blocks;
-    whole = λ page small there. page_is_block image point sound blocks sized mark.ino page (marked_address image point (chain image point) place page) (inr (is_page page small there));
-    before = λ page small there past. no_bad_tree image point sound mark.ino (faults.marked_past_size place page (marked_address image point (chain image point) place page) (block_in (chain image point) place) marked own small refl there
-        (subst (λ n. IsPastSize image n page (marked_address image point (chain image point) place page)) is.size past));
+    whole = λ page small there. page_is_block image ckpt sound blocks sized mark.ino page (marked_address image ckpt (chain image ckpt) place page) (inr (is_page page small there));
+    before = λ page small there past. no_bad_tree image ckpt sound mark.ino (faults.marked_past_size place page (marked_address image ckpt (chain image ckpt) place page) (block_in (chain image ckpt) place) marked own small refl there
+        (subst (λ n. IsPastSize image n page (marked_address image ckpt (chain image ckpt) place page)) is.size past));
   })
     where
-      is_page : (page : ℕ) → page < page_limit → marked_address image point (chain image point) place page ≢ 0 → IsMarkedPage image point mark.ino page (marked_address image point (chain image point) place page)
+      is_page : (page : ℕ) → page < page_limit → marked_address image ckpt (chain image ckpt) place page ≢ 0 → IsMarkedPage image ckpt mark.ino page (marked_address image ckpt (chain image ckpt) place page)
       is_page page small there = record {
         place = place;
-        inode = block_in (chain image point) place;
+        inode = block_in (chain image ckpt) place;
         marked = marked;
         own = own;
         within = small;
@@ -149,8 +149,8 @@ module _ (image : Image) (point : Checkpoint) (sound : IsSound image point) (bas
       }
 
       size : mark.row.size ≤ SIZE_LIMIT
-      size = by_order (dec_lt SIZE_LIMIT (inode_of (block_in (chain image point) place)).size)
+      size = by_order (dec_lt SIZE_LIMIT (inode_of (block_in (chain image ckpt) place)).size)
         where
-          by_order : Dec (SIZE_LIMIT < (inode_of (block_in (chain image point) place)).size) → mark.row.size ≤ SIZE_LIMIT
-          by_order (yes large) = absurd (no_bad_inode image point sound _ (faults.in_log place (block_in (chain image point) place) marked refl (inr (inr large))))
-          by_order (no small) = subst (λ n. n ≤ SIZE_LIMIT) (sym is.size) (not_less SIZE_LIMIT (inode_of (block_in (chain image point) place)).size small)
+          by_order : Dec (SIZE_LIMIT < (inode_of (block_in (chain image ckpt) place)).size) → mark.row.size ≤ SIZE_LIMIT
+          by_order (yes large) = absurd (no_bad_inode image ckpt sound _ (faults.in_log place (block_in (chain image ckpt) place) marked refl (inr (inr large))))
+          by_order (no small) = subst (λ n. n ≤ SIZE_LIMIT) (sym is.size) (not_less SIZE_LIMIT (inode_of (block_in (chain image ckpt) place)).size small)

@@ -55,87 +55,87 @@ from_table limit nid place there = (by_order (dec_lt nid limit), λ none. there 
     of_zero false place none = none
 
 -- the same node address table, as far as it goes, and the same nodes
-pub record SameTable (image other : Image) (point : Checkpoint) : Type 0 where
-  pub places : (nid : ℕ) → nid < nid_limit point.extent → place_of_nid other point nid ≡ place_of_nid image point nid
-  pub addresses : (nid : ℕ) → node_address other point nid ≡ node_address image point nid
-  pub nodes : (nid : ℕ) → node other point nid ≡ node image point nid
+pub record SameTable (image other : Image) (ckpt : Checkpoint) : Type 0 where
+  pub places : (nid : ℕ) → nid < nid_limit ckpt.geom → place_of_nid other ckpt nid ≡ place_of_nid image ckpt nid
+  pub addresses : (nid : ℕ) → node_address other ckpt nid ≡ node_address image ckpt nid
+  pub nodes : (nid : ℕ) → node other ckpt nid ≡ node image ckpt nid
 
-pub same_table_back : (image other : Image) (point : Checkpoint) → SameTable image other point → SameTable other image point
-same_table_back image other point same = record {
+pub same_table_back : (image other : Image) (ckpt : Checkpoint) → SameTable image other ckpt → SameTable other image ckpt
+same_table_back image other ckpt same = record {
   places = λ nid small. sym (same.places nid small);
   addresses = λ nid. sym (same.addresses nid);
   nodes = λ nid. sym (same.nodes nid);
 }
 
-module _ (image other : Image) (point : Checkpoint) (sound : IsSound image point) (agree : (at : ℕ) → DependsOn image point at → block_at other at ≡ block_at image at) where
-  same_place : (nid : ℕ) → nid < nid_limit point.extent → place_of_nid other point nid ≡ place_of_nid image point nid
+module _ (image other : Image) (ckpt : Checkpoint) (sound : IsSound image ckpt) (agree : (at : ℕ) → DependsOn image ckpt at → block_at other at ≡ block_at image at) where
+  same_place : (nid : ℕ) → nid < nid_limit ckpt.geom → place_of_nid other ckpt nid ≡ place_of_nid image ckpt nid
   unfolding place_of_nid
   same_place nid small =
-      ap (λ block. unwrap_or (journal_find (journal point) nid) (nat_entry block (nat_place_of nid))) (agree (nat_address point.extent (nat_block_of nid) (is_second_copy point.head.bitmap (nat_block_of nid))) (depending.table nid small refl))
+      ap (λ block. unwrap_or (journal_find (journal ckpt) nid) (nat_entry block (nat_place_of nid))) (agree (nat_address ckpt.geom (nat_block_of nid) (is_second_copy ckpt.head.bitmap (nat_block_of nid))) (depending.table nid small refl))
 
-  same_address : (nid : ℕ) → node_address other point nid ≡ node_address image point nid
-  same_address nid = by_order (dec_lt nid (nid_limit point.extent))
+  same_address : (nid : ℕ) → node_address other ckpt nid ≡ node_address image ckpt nid
+  same_address nid = by_order (dec_lt nid (nid_limit ckpt.geom))
     where
-      by_order : Dec (nid < nid_limit point.extent) → node_address other point nid ≡ node_address image point nid
-      by_order (yes small) = ap (λ place. cond ((nid == 0) || nat_le (nid_limit point.extent) nid) 0 place.1) (same_place nid small)
-      by_order (no past) = none_past (nid_limit point.extent) nid (place_of_nid other point nid).1 past ∙ sym (none_past (nid_limit point.extent) nid (place_of_nid image point nid).1 past)
+      by_order : Dec (nid < nid_limit ckpt.geom) → node_address other ckpt nid ≡ node_address image ckpt nid
+      by_order (yes small) = ap (λ place. cond ((nid == 0) || nat_le (nid_limit ckpt.geom) nid) 0 place.1) (same_place nid small)
+      by_order (no past) = none_past (nid_limit ckpt.geom) nid (place_of_nid other ckpt nid).1 past ∙ sym (none_past (nid_limit ckpt.geom) nid (place_of_nid image ckpt nid).1 past)
 
   -- an address in the table of a sound image is that of a node of the base
-  same_at_address : (nid : ℕ) → node_address image point nid ≢ 0 → block_at other (node_address image point nid) ≡ block_at image (node_address image point nid)
-  same_at_address nid there = by_test (same_or_not (block_at other (node_address image point nid)) (block_at image (node_address image point nid)))
+  same_at_address : (nid : ℕ) → node_address image ckpt nid ≢ 0 → block_at other (node_address image ckpt nid) ≡ block_at image (node_address image ckpt nid)
+  same_at_address nid there = by_test (same_or_not (block_at other (node_address image ckpt nid)) (block_at image (node_address image ckpt nid)))
     where
-      by_test : Dec (block_at other (node_address image point nid) ≡ block_at image (node_address image point nid)) → block_at other (node_address image point nid) ≡ block_at image (node_address image point nid)
+      by_test : Dec (block_at other (node_address image ckpt nid) ≡ block_at image (node_address image ckpt nid)) → block_at other (node_address image ckpt nid) ≡ block_at image (node_address image ckpt nid)
       by_test (yes same) = same
       by_test (no differ) =
-          let place = from_table (nid_limit point.extent) nid (place_of_nid image point nid).1 there in
+          let place = from_table (nid_limit ckpt.geom) nid (place_of_nid image ckpt nid).1 there in
           absurd (sound BadNat nid bad_nat (
-            sound_table image point sound,
-            faults.unreached place.0 place.1 (λ ino offset is. differ (agree (node_address image point nid) (depending.node ino offset nid is refl))),
+            sound_table image ckpt sound,
+            faults.unreached place.0 place.1 (λ ino offset is. differ (agree (node_address image ckpt nid) (depending.node ino offset nid is refl))),
           ))
 
-  pub same_table : SameTable image other point
+  pub same_table : SameTable image other ckpt
   same_table = record {
     places = same_place;
     addresses = same_address;
-    nodes = λ nid. ap (block_there other) (same_address nid) ∙ block_there-same image other (node_address image point nid) (same_at_address nid);
+    nodes = λ nid. ap (block_there other) (same_address nid) ∙ block_there-same image other (node_address image ckpt nid) (same_at_address nid);
   }
 
 -- from here on things move from the other image to the first
-module _ (image other : Image) (point : Checkpoint) (same : SameTable image other point) where
+module _ (image other : Image) (ckpt : Checkpoint) (same : SameTable image other ckpt) where
   -- the ways to pages
-  same_along : (from : Option (List ℕ)) (slots : List ℕ) → node_along other point from slots ≡ node_along image point from slots
+  same_along : (from : Option (List ℕ)) (slots : List ℕ) → node_along other ckpt from slots ≡ node_along image ckpt from slots
   same_along from [] = refl
   same_along None (slot ∷ slots) = refl
-  same_along (Some block) (slot ∷ slots) = ap (λ x. node_along other point x slots) (same.nodes (node_word block slot)) ∙ same_along (node image point (node_word block slot)) slots
+  same_along (Some block) (slot ∷ slots) = ap (λ x. node_along other ckpt x slots) (same.nodes (node_word block slot)) ∙ same_along (node image ckpt (node_word block slot)) slots
 
-  same_below : (inode : List ℕ) (slots : List ℕ) → node_below other point inode slots ≡ node_below image point inode slots
+  same_below : (inode : List ℕ) (slots : List ℕ) → node_below other ckpt inode slots ≡ node_below image ckpt inode slots
   same_below inode [] = refl
   same_below inode (slot ∷ slots) =
       let nid = slice_index_or (inode_of inode).nids slot 0 in
-      ap (λ x. node_along other point x slots) (same.nodes nid) ∙ same_along (node image point nid) slots
+      ap (λ x. node_along other ckpt x slots) (same.nodes nid) ∙ same_along (node image ckpt nid) slots
 
-  same_direct : (inode : List ℕ) (page : ℕ) → direct_node other point inode page ≡ direct_node image point inode page
+  same_direct : (inode : List ℕ) (page : ℕ) → direct_node other ckpt inode page ≡ direct_node image ckpt inode page
   unfolding direct_node
   same_direct inode page = same_below inode _
 
-  pub read_page_address : (inode : List ℕ) (page : ℕ) → page_address other point inode page ≡ page_address image point inode page
+  pub read_page_address : (inode : List ℕ) (page : ℕ) → page_address other ckpt inode page ≡ page_address image ckpt inode page
   read_page_address inode page = ap (λ direct. address_in inode direct page) (same_direct inode page)
 
-  same_base_direct : (inode : Option (List ℕ)) (page : ℕ) → base_direct other point inode page ≡ base_direct image point inode page
+  same_base_direct : (inode : Option (List ℕ)) (page : ℕ) → base_direct other ckpt inode page ≡ base_direct image ckpt inode page
   same_base_direct None page = refl
   same_base_direct (Some inode) page = same_direct inode page
 
-  pub read_marked_address : (log : List Logged) (place page : ℕ) → marked_address other point log place page ≡ marked_address image point log place page
+  pub read_marked_address : (log : List Logged) (place page : ℕ) → marked_address other ckpt log place page ≡ marked_address image ckpt log place page
   read_marked_address log place page =
       let ino = footer_ino (block_in log place) in
       ap (λ base. address_in (block_in log place) (or_below (logged_direct log place ino (direct_of page)) base) page)
-      (ap (λ inode. base_direct other point inode page) (same.nodes ino) ∙ same_base_direct (node image point ino) page)
+      (ap (λ inode. base_direct other ckpt inode page) (same.nodes ino) ∙ same_base_direct (node image ckpt ino) page)
 
   -- inodes and blocks of directories
-  pub read_inode : (ino : ℕ) (kind : Kind) (inode : List ℕ) → IsInode other point ino kind inode → IsInode image point ino kind inode
+  pub read_inode : (ino : ℕ) (kind : Kind) (inode : List ℕ) → IsInode other ckpt ino kind inode → IsInode image ckpt ino kind inode
   read_inode ino kind inode is = record { there = sym (same.nodes ino) ∙ is.there; is_kind = is.is_kind }
 
-  pub read_directory_block : (directory page at : ℕ) → IsDirectoryBlock other point directory page at → IsDirectoryBlock image point directory page at
+  pub read_directory_block : (directory page at : ℕ) → IsDirectoryBlock other ckpt directory page at → IsDirectoryBlock image ckpt directory page at
   read_directory_block directory page at is = record {
     inode = is.inode;
     is = read_inode directory _ is.inode is.is;
@@ -144,7 +144,7 @@ module _ (image other : Image) (point : Checkpoint) (same : SameTable image othe
     there = is.there;
   }
 
-  pub read_dentry_in : (directory page slot : ℕ) (dentry : Dentry) (has : HasDentryAt other point directory page slot dentry) → block_at other has.at ≡ block_at image has.at → HasDentryAt image point directory page slot dentry
+  pub read_dentry_in : (directory page slot : ℕ) (dentry : Dentry) (has : HasDentryAt other ckpt directory page slot dentry) → block_at other has.at ≡ block_at image has.at → HasDentryAt image ckpt directory page slot dentry
   read_dentry_in directory page slot dentry has block = record {
     at = has.at;
     block = read_directory_block directory page has.at has.block;

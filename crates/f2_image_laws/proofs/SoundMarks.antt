@@ -37,45 +37,45 @@ use Rattle.f2_image_laws.proofs.RolledTree.{IsRolledTo, not_in_base, may, rolled
 use Rattle.f2_image_laws.proofs.Numbers.{not_less}
 
 -- the marked block of a mark stands at a place of the node log
-record HasPlace (image : Image) (point : Checkpoint) (base : Rows) (mark : Mark) : Type 0 where
+record HasPlace (image : Image) (ckpt : Checkpoint) (base : Rows) (mark : Mark) : Type 0 where
   place : ℕ
-  is : IsMark image point base (chain image point) place mark
-  marked : IsMarkedAt image point place (block_in (chain image point) place)
+  is : IsMark image ckpt base (chain image ckpt) place mark
+  marked : IsMarkedAt image ckpt place (block_in (chain image ckpt) place)
 
 -- each mark has one
-module _ (image : Image) (point : Checkpoint) (base : Rows) where
+module _ (image : Image) (ckpt : Checkpoint) (base : Rows) where
   abbrev Fits : List ℕ → List Mark → Type 0
-  Fits places marks = AllZip (IsMark image point base (chain image point)) places marks
+  Fits places marks = AllZip (IsMark image ckpt base (chain image ckpt)) places marks
 
   abbrev passes : ℕ → Bool
-  passes place = is_marked (block_in (chain image point) place)
+  passes place = is_marked (block_in (chain image ckpt) place)
 
   abbrev Stand : ℕ → ℕ → Type 0
-  Stand from many = (marks : List Mark) → Fits (filter passes (range_with_len from many)) marks → AllByRecursion (HasPlace image point base) marks
+  Stand from many = (marks : List Mark) → Fits (filter passes (range_with_len from many)) marks → AllByRecursion (HasPlace image ckpt base) marks
 
-  by_first : (from many : ℕ) → from < length (chain image point) → Stand (from + 1) many → (b : Bool) → passes from ≡ b → (marks : List Mark)
-      → Fits (cond b (from ∷ filter passes (range_with_len (from + 1) many)) (filter passes (range_with_len (from + 1) many))) marks → AllByRecursion (HasPlace image point base) marks
+  by_first : (from many : ℕ) → from < length (chain image ckpt) → Stand (from + 1) many → (b : Bool) → passes from ≡ b → (marks : List Mark)
+      → Fits (cond b (from ∷ filter passes (range_with_len (from + 1) many)) (filter passes (range_with_len (from + 1) many))) marks → AllByRecursion (HasPlace image ckpt base) marks
   by_first from many small rest false e marks fits = rest marks fits
   by_first from many small rest true e [] fits = absurd fits
   by_first from many small rest true e (mark ∷ marks) fits = (record { place = from; is = fits.0; marked = record { within = small; stands = refl; marked = e } }, rest marks fits.1)
 
-  stand : (from many : ℕ) → from + many ≡ length (chain image point) → Stand from many
+  stand : (from many : ℕ) → from + many ≡ length (chain image ckpt) → Stand from many
   stand from zero all [] fits = tt
   stand from zero all (mark ∷ marks) fits = absurd fits
   stand from (suc many) all marks fits = by_first from many (omega (arith, all)) (stand (from + 1) many (omega (arith, all))) (passes from) refl marks fits
 
-  all_stand : (marks : List Mark) → AreMarks image point base marks → AllByRecursion (HasPlace image point base) marks
-  all_stand marks are = stand 0 (length (chain image point)) (omega arith) marks are
+  all_stand : (marks : List Mark) → AreMarks image ckpt base marks → AllByRecursion (HasPlace image ckpt base) marks
+  all_stand marks are = stand 0 (length (chain image ckpt)) (omega arith) marks are
 
-module _ (image : Image) (point : Checkpoint) (sound : IsSound image point) (base : Rows) (is_base : IsBase image point base) (blocks : All IsBlock image) (sized : IsSized image point.extent) where
+module _ (image : Image) (ckpt : Checkpoint) (sound : IsSound image ckpt) (base : Rows) (is_base : IsBase image ckpt base) (blocks : All IsBlock image) (sized : IsSized image ckpt.geom) where
   good : IsGoodTree SIZE_LIMIT base
-  good = good_base image point sound base is_base blocks sized
+  good = good_base image ckpt sound base is_base blocks sized
 
   -- with no mark rolled over it the base is as it is, at each place
-  none_rolled : (place : ℕ) → IsRolledTo image point base place base
+  none_rolled : (place : ℕ) → IsRolledTo image ckpt base place base
   none_rolled place = record {
     good = good;
-    numbers = base_number image point sound base is_base;
+    numbers = base_number image ckpt sound base is_base;
     rows = λ ino row there. inl (record {
       old = row;
       there = there;
@@ -86,15 +86,15 @@ module _ (image : Image) (point : Checkpoint) (sound : IsSound image point) (bas
     directories = λ ino up there directory. (up, there, directory);
   }
 
-  module _ (mark : Mark) (at : HasPlace image point base mark) where
+  module _ (mark : Mark) (at : HasPlace image ckpt base mark) where
     -- so the mark's row could come into it alone
     into_base : MayComeIn SIZE_LIMIT base mark.row
-    into_base = may image point sound base is_base blocks sized at.place base (none_rolled at.place) mark at.is at.marked
+    into_base = may image ckpt sound base is_base blocks sized at.place base (none_rolled at.place) mark at.is at.marked
 
     not_root : mark.ino ≢ ROOT
     not_root e = into_base.not_root (at.is.row_ino ∙ e)
 
-    fits_base : FitsBase (image_limits point.extent) base mark
+    fits_base : FitsBase (image_limits ckpt.geom) base mark
     fits_base = record {
       not_root = not_root;
       file = λ old there. into_base.file old (ap (map.get base) at.is.row_ino ∙ there);
@@ -105,21 +105,21 @@ module _ (image : Image) (point : Checkpoint) (sound : IsSound image point) (bas
     }
 
     keeps : (old : Row) → map.get base mark.ino ≡ Some old → (mark.row.parent ≡ old.parent) × (mark.row.name ≡ old.name)
-    keeps = mark_rows.keeps image point sound base is_base at.place mark at.is at.marked
+    keeps = mark_rows.keeps image ckpt sound base is_base at.place mark at.is at.marked
 
-    brings : map.get base mark.ino ≡ None → BringsName image point at.place mark.ino mark.row.parent mark.row.name
-    brings = mark_rows.brings image point sound base is_base at.place mark at.is at.marked
+    brings : map.get base mark.ino ≡ None → BringsName image ckpt at.place mark.ino mark.row.parent mark.row.name
+    brings = mark_rows.brings image ckpt sound base is_base at.place mark at.is at.marked
 
   -- a name that one mark brings is brought by no earlier mark of another file
-  not_earlier : (one other : Mark) (at : HasPlace image point base one) (also : HasPlace image point base other) → map.get base one.ino ≡ None → map.get base other.ino ≡ None
+  not_earlier : (one other : Mark) (at : HasPlace image ckpt base one) (also : HasPlace image ckpt base other) → map.get base one.ino ≡ None → map.get base other.ino ≡ None
       → one.row.parent ≡ other.row.parent → one.row.name ≡ other.row.name → at.place < also.place → one.ino ≢ other.ino → ⊥
   not_earlier one other at also none no_other parents names first differ =
-      let before : BringsName image point at.place one.ino other.row.parent other.row.name =
-      subst (λ n. BringsName image point at.place one.ino other.row.parent n) names (subst (λ d. BringsName image point at.place one.ino d one.row.name) parents (brings one at none)) in
-      no_conflict image point sound other.ino (faults.in_log also.place at.place one.ino other.row.parent other.row.name (brings other also no_other) before first differ)
+      let before : BringsName image ckpt at.place one.ino other.row.parent other.row.name =
+      subst (λ n. BringsName image ckpt at.place one.ino other.row.parent n) names (subst (λ d. BringsName image ckpt at.place one.ino d one.row.name) parents (brings one at none)) in
+      no_conflict image ckpt sound other.ino (faults.in_log also.place at.place one.ino other.row.parent other.row.name (brings other also no_other) before first differ)
 
   -- two marks with one name are of one file
-  one_file : (one other : Mark) → HasPlace image point base one → HasPlace image point base other → one.row.parent ≡ other.row.parent → one.row.name ≡ other.row.name → one.ino ≡ other.ino
+  one_file : (one other : Mark) → HasPlace image ckpt base one → HasPlace image ckpt base other → one.row.parent ≡ other.row.parent → one.row.name ≡ other.row.name → one.ino ≡ other.ino
   one_file one other at also parents names = by_rows (map.get base one.ino) (map.get base other.ino) refl refl
     where
       by_order : map.get base one.ino ≡ None → map.get base other.ino ≡ None → Dec (one.ino ≡ other.ino) → Dec (at.place < also.place) → Dec (also.place < at.place) → one.ino ≡ other.ino
@@ -130,7 +130,7 @@ module _ (image : Image) (point : Checkpoint) (sound : IsSound image point) (bas
           let a = not_less at.place also.place late in
           let b = not_less also.place at.place early in
           let same : at.place ≡ also.place = omega (arith, a, b) in
-          at.is.ino ∙ ap (λ place. footer_ino (block_in (chain image point) place)) same ∙ sym also.is.ino
+          at.is.ino ∙ ap (λ place. footer_ino (block_in (chain image ckpt) place)) same ∙ sym also.is.ino
 
       by_rows : (a b : Option Row) → map.get base one.ino ≡ a → map.get base other.ino ≡ b → one.ino ≡ other.ino
       by_rows (Some a) (Some b) p q =
@@ -139,29 +139,29 @@ module _ (image : Image) (point : Checkpoint) (sound : IsSound image point) (bas
           good.apart one.ino other.ino a b p q (not_root one at) (not_root other also) (sym k.0 ∙ parents ∙ m.0) (sym k.1 ∙ names ∙ m.1)
       by_rows (Some a) None p q =
           let k = keeps one at a p in
-          absurd (not_in_base image point sound base is_base blocks sized also.place other.ino other.row.parent other.row.name one.ino a (brings other also q) p (not_root one at) (sym k.0 ∙ parents) (sym k.1 ∙ names))
+          absurd (not_in_base image ckpt sound base is_base blocks sized also.place other.ino other.row.parent other.row.name one.ino a (brings other also q) p (not_root one at) (sym k.0 ∙ parents) (sym k.1 ∙ names))
       by_rows None (Some b) p q =
           let m = keeps other also b q in
-          absurd (not_in_base image point sound base is_base blocks sized at.place one.ino one.row.parent one.row.name other.ino b (brings one at p) q (not_root other also) (sym m.0 ∙ sym parents) (sym m.1 ∙ sym names))
+          absurd (not_in_base image ckpt sound base is_base blocks sized at.place one.ino one.row.parent one.row.name other.ino b (brings one at p) q (not_root other also) (sym m.0 ∙ sym parents) (sym m.1 ∙ sym names))
       by_rows None None p q = by_order p q (ℕ_discrete one.ino other.ino) (dec_lt at.place also.place) (dec_lt also.place at.place)
 
-  each_fits : (marks : List Mark) → AllByRecursion (HasPlace image point base) marks → AllByRecursion (FitsBase (image_limits point.extent) base) marks
+  each_fits : (marks : List Mark) → AllByRecursion (HasPlace image ckpt base) marks → AllByRecursion (FitsBase (image_limits ckpt.geom) base) marks
   each_fits [] all = tt
   each_fits (mark ∷ marks) all = (fits_base mark all.0, each_fits marks all.1)
 
 pub sound_marks_fit : SoundMarksFit
-sound_marks_fit image point base marks format version blocks means = record {
-  base = All-from_recursion (FitsBase (image_limits point.extent) base) marks (each_fits image point means.sound base means.is_base blocks means.checkpoint.sized marks places);
-  names = λ one other found also parents names. one_file image point means.sound base means.is_base blocks means.checkpoint.sized one other
-      (All-contains (HasPlace image point base) marks one all found) (All-contains (HasPlace image point base) marks other all also) parents names;
-  trees = λ place from to. subst (λ (ms : List Mark). IsProperTree (image_limits point.extent) (rolled base ms)) (sym (take_all place marks from)) (rolled_tree_proper image point base marks blocks means);
+sound_marks_fit image ckpt base marks format version blocks means = record {
+  base = All-from_recursion (FitsBase (image_limits ckpt.geom) base) marks (each_fits image ckpt means.sound base means.is_base blocks means.checkpoint.sized marks places);
+  names = λ one other found also parents names. one_file image ckpt means.sound base means.is_base blocks means.checkpoint.sized one other
+      (All-contains (HasPlace image ckpt base) marks one all found) (All-contains (HasPlace image ckpt base) marks other all also) parents names;
+  trees = λ place from to. subst (λ (ms : List Mark). IsProperTree (image_limits ckpt.geom) (rolled base ms)) (sym (take_all place marks from)) (rolled_tree_proper image ckpt base marks blocks means);
 }
   where
-    places : AllByRecursion (HasPlace image point base) marks
-    places = all_stand image point base marks means.are_marks
+    places : AllByRecursion (HasPlace image ckpt base) marks
+    places = all_stand image ckpt base marks means.are_marks
 
-    all : All (HasPlace image point base) marks
-    all = All-from_recursion (HasPlace image point base) marks places
+    all : All (HasPlace image ckpt base) marks
+    all = All-from_recursion (HasPlace image ckpt base) marks places
 
 -- what happened leaves a fitting state so
 happened_fitting : (limits : Limits) (faults : Faults) (events : List Happening) (from to : State) → IsFittingState limits from → Happened limits faults from events to → IsFittingState limits to
@@ -169,12 +169,12 @@ happened_fitting limits faults [] from to holds h = subst (IsFittingState limits
 happened_fitting limits faults (one ∷ rest) from to holds h = happened_fitting limits _ rest one.turn.after to (events_keep_states_fitting limits one.faults from one.event one.turn h.2 holds) h.3
 
 pub sound_runs_stay_fit : SoundRunsStayFit
-sound_runs_stay_fit image point base marks format version faults entries choices state blocks means run = record {
-  marks = fitting_fits (image_limits point.extent) state fitting;
-  left = λ meaning remains. remains_proper (image_limits point.extent) state meaning fitting.proper remains;
+sound_runs_stay_fit image ckpt base marks format version faults entries choices state blocks means run = record {
+  marks = fitting_fits (image_limits ckpt.geom) state fitting;
+  left = λ meaning remains. remains_proper (image_limits ckpt.geom) state meaning fitting.proper remains;
 }
   where
-    fitting : IsFittingState (image_limits point.extent) state
+    fitting : IsFittingState (image_limits ckpt.geom) state
     fitting =
-        happened_fitting (image_limits point.extent) faults run.events _ state
-        (initial_fitting (image_limits point.extent) (record { base = base; marks = marks; format = format; version = version }) (sound_marks_fit image point base marks format version blocks means)) run.happened
+        happened_fitting (image_limits ckpt.geom) faults run.events _ state
+        (initial_fitting (image_limits ckpt.geom) (record { base = base; marks = marks; format = format; version = version }) (sound_marks_fit image ckpt base marks format version blocks means)) run.happened

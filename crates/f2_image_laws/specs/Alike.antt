@@ -13,26 +13,26 @@ use Rattle.f2_image.specs.Faults.{IsSound}
 use Rattle.f2_image_laws.specs.Depending.{DependsOn}
 
 -- what is read of the base of one image is read so in another one
-pub record ReadsSo (image other : Image) (point : Checkpoint) : Type 0 where
-  pub reached : (ino : ℕ) → IsReached image point ino → IsReached other point ino
-  pub node : (ino offset nid : ℕ) → IsNode image point ino offset nid → IsNode other point ino offset nid
-  pub inode : (ino : ℕ) (kind : Kind) (inode : List ℕ) → IsInode image point ino kind inode → IsInode other point ino kind inode
-  pub directory_block : (directory page at : ℕ) → IsDirectoryBlock image point directory page at → IsDirectoryBlock other point directory page at
-  pub dentry_at : (directory page slot : ℕ) (dentry : Dentry) → IsReached image point directory → HasDentryAt image point directory page slot dentry → HasDentryAt other point directory page slot dentry
-  pub dentry : (directory : ℕ) (dentry : Dentry) → IsReached image point directory → HasDentry image point directory dentry → HasDentry other point directory dentry
-  pub page : (ino page at : ℕ) → IsBasePage image point ino page at → IsBasePage other point ino page at
+pub record ReadsSo (image other : Image) (ckpt : Checkpoint) : Type 0 where
+  pub reached : (ino : ℕ) → IsReached image ckpt ino → IsReached other ckpt ino
+  pub node : (ino offset nid : ℕ) → IsNode image ckpt ino offset nid → IsNode other ckpt ino offset nid
+  pub inode : (ino : ℕ) (kind : Kind) (inode : List ℕ) → IsInode image ckpt ino kind inode → IsInode other ckpt ino kind inode
+  pub directory_block : (directory page at : ℕ) → IsDirectoryBlock image ckpt directory page at → IsDirectoryBlock other ckpt directory page at
+  pub dentry_at : (directory page slot : ℕ) (dentry : Dentry) → IsReached image ckpt directory → HasDentryAt image ckpt directory page slot dentry → HasDentryAt other ckpt directory page slot dentry
+  pub dentry : (directory : ℕ) (dentry : Dentry) → IsReached image ckpt directory → HasDentry image ckpt directory dentry → HasDentry other ckpt directory dentry
+  pub page : (ino page at : ℕ) → IsBasePage image ckpt ino page at → IsBasePage other ckpt ino page at
 
 -- both ways, by the same node address table, as far as it goes, with the same nodes, ways to pages and blocks at them
-pub record ReadAlike (image other : Image) (point : Checkpoint) : Type 0 where
-  pub places : (nid : ℕ) → nid < nid_limit point.extent → place_of_nid other point nid ≡ place_of_nid image point nid
-  pub addresses : (nid : ℕ) → node_address other point nid ≡ node_address image point nid
-  pub nodes : (nid : ℕ) → node other point nid ≡ node image point nid
-  pub page_addresses : (inode : List ℕ) (page : ℕ) → page_address other point inode page ≡ page_address image point inode page
-  pub marked_addresses : (log : List Logged) (place page : ℕ) → marked_address other point log place page ≡ marked_address image point log place page
-  pub pages : (ino page at : ℕ) → IsBasePage image point ino page at → block_at other at ≡ block_at image at
-  pub there : ReadsSo image other point
-  pub back : ReadsSo other image point
+pub record ReadAlike (image other : Image) (ckpt : Checkpoint) : Type 0 where
+  pub places : (nid : ℕ) → nid < nid_limit ckpt.geom → place_of_nid other ckpt nid ≡ place_of_nid image ckpt nid
+  pub addresses : (nid : ℕ) → node_address other ckpt nid ≡ node_address image ckpt nid
+  pub nodes : (nid : ℕ) → node other ckpt nid ≡ node image ckpt nid
+  pub page_addresses : (inode : List ℕ) (page : ℕ) → page_address other ckpt inode page ≡ page_address image ckpt inode page
+  pub marked_addresses : (log : List Logged) (place page : ℕ) → marked_address other ckpt log place page ≡ marked_address image ckpt log place page
+  pub pages : (ino page at : ℕ) → IsBasePage image ckpt ino page at → block_at other at ≡ block_at image at
+  pub there : ReadsSo image other ckpt
+  pub back : ReadsSo other image ckpt
 
 -- images that agree on what a sound one depends on read alike
 abbrev pub ImagesReadAlike : Type 0
-ImagesReadAlike = (image other : Image) (point : Checkpoint) → IsSound image point → ((at : ℕ) → DependsOn image point at → block_at other at ≡ block_at image at) → ReadAlike image other point
+ImagesReadAlike = (image other : Image) (ckpt : Checkpoint) → IsSound image ckpt → ((at : ℕ) → DependsOn image ckpt at → block_at other at ≡ block_at image at) → ReadAlike image other ckpt

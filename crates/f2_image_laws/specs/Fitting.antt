@@ -18,10 +18,10 @@ use Rattle.f2_image_laws.specs.Rolled.{image_limits}
 -- the marks that a sound image of whole blocks stands for are fitting, whatever its format and its version
 abbrev pub SoundMarksFit : Type 0
 SoundMarksFit =
-    (image : Image) (point : Checkpoint) (base : Rows) (marks : List Mark) (format : Format) (version : ℕ) →
+    (image : Image) (ckpt : Checkpoint) (base : Rows) (marks : List Mark) (format : Format) (version : ℕ) →
     All IsBlock image →
-    MeansAt image point base marks →
-    AreFitting (image_limits point.extent) (initial (record { base = base; marks = marks; format = format; version = version }))
+    MeansAt image ckpt base marks →
+    AreFitting (image_limits ckpt.geom) (initial (record { base = base; marks = marks; format = format; version = version }))
 
 -- the marks of a state are fitting, and what a crash may leave of it makes proper trees
 pub record StaysFit (limits : Limits) (state : State) : Type 0 where
@@ -31,8 +31,8 @@ pub record StaysFit (limits : Limits) (state : State) : Type 0 where
 -- every run from what such an image stands for leads to such a state
 abbrev pub SoundRunsStayFit : Type 0
 SoundRunsStayFit =
-    (image : Image) (point : Checkpoint) (base : Rows) (marks : List Mark) (format : Format) (version : ℕ) (faults : Faults) (entries : List Entry) (choices : List ℕ) (state : State) →
+    (image : Image) (ckpt : Checkpoint) (base : Rows) (marks : List Mark) (format : Format) (version : ℕ) (faults : Faults) (entries : List Entry) (choices : List ℕ) (state : State) →
     All IsBlock image →
-    MeansAt image point base marks →
-    IsRun (image_limits point.extent) faults (initial (record { base = base; marks = marks; format = format; version = version })) entries choices state →
-    StaysFit (image_limits point.extent) state
+    MeansAt image ckpt base marks →
+    IsRun (image_limits ckpt.geom) faults (initial (record { base = base; marks = marks; format = format; version = version })) entries choices state →
+    StaysFit (image_limits ckpt.geom) state

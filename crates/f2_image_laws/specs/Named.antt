@@ -9,19 +9,19 @@ use Rattle.f2_image.specs.Packs.{Checkpoint}
 use Rattle.f2_image.specs.Bases.{HasDentry, IsReached, StandsAs, IsBase}
 
 -- a row's name stands in a dentry of its parent, which is in the base
-pub record HasName (image : Image) (point : Checkpoint) (ino : ℕ) (row : Row) : Type 0 where
+pub record HasName (image : Image) (ckpt : Checkpoint) (ino : ℕ) (row : Row) : Type 0 where
   pub dentry : Dentry
-  pub up : IsReached image point row.parent
-  pub has : HasDentry image point row.parent dentry
+  pub up : IsReached image ckpt row.parent
+  pub has : HasDentry image ckpt row.parent dentry
   pub is : dentry.ino ≡ ino
   pub named : dentry.name ≡ row.name
 
 -- each row but the root has such a dentry
 abbrev pub RowsHaveDentries : Type 0
-RowsHaveDentries = (image : Image) (point : Checkpoint) (tree : Rows) → IsBase image point tree → (ino : ℕ) (row : Row) → map.get tree ino ≡ Some row → ino ≢ ROOT → HasName image point ino row
+RowsHaveDentries = (image : Image) (ckpt : Checkpoint) (tree : Rows) → IsBase image ckpt tree → (ino : ℕ) (row : Row) → map.get tree ino ≡ Some row → ino ≢ ROOT → HasName image ckpt ino row
 
 -- each dentry of a directory of the base is the name of a row in it
 abbrev pub DentriesAreNames : Type 0
 DentriesAreNames =
-    (image : Image) (point : Checkpoint) (tree : Rows) → IsBase image point tree → (directory : ℕ) (dentry : Dentry) → IsReached image point directory → HasDentry image point directory dentry
+    (image : Image) (ckpt : Checkpoint) (tree : Rows) → IsBase image ckpt tree → (directory : ℕ) (dentry : Dentry) → IsReached image ckpt directory → HasDentry image ckpt directory dentry
     → StandsAs tree dentry.ino directory dentry.name

@@ -1,6 +1,6 @@
 -- The tree that an image's base and marks make is good, and within the limits of the image.
 use Rattle.std.specs.Prelude.{List, All}
-use Rattle.f2_format.specs.Geometry.{Extent, node_third, data_third, nid_limit}
+use Rattle.f2_format.specs.Geometry.{ImageGeometry, node_third, data_third, nid_limit}
 use Rattle.f2_format.specs.Inode.{SIZE_LIMIT}
 use Rattle.f2_disk.specs.Contents.{IsBlock}
 use Rattle.f2_model.specs.Tree.{Rows}
@@ -12,13 +12,13 @@ use Rattle.f2_image.specs.Meanings.{MeansAt}
 use Rattle.f2_room_laws.specs.ProperTrees.{IsProperTree}
 
 -- what an image of these sizes grants: a third of each zone, the nids of its table, and the longest file
-abbrev pub image_limits : Extent → Limits
-image_limits extent = record { nodes = node_third extent; data_blocks = data_third extent; nids = nid_limit extent; size = SIZE_LIMIT }
+abbrev pub image_limits : ImageGeometry → Limits
+image_limits geom = record { nodes = node_third geom; data_blocks = data_third geom; nids = nid_limit geom; size = SIZE_LIMIT }
 
 -- what a sound image of whole blocks stands for makes a proper tree
 abbrev pub RolledTreesAreProper : Type 0
 RolledTreesAreProper =
-    (image : Image) (point : Checkpoint) (base : Rows) (marks : List Mark) →
+    (image : Image) (ckpt : Checkpoint) (base : Rows) (marks : List Mark) →
     All IsBlock image →
-    MeansAt image point base marks →
-    IsProperTree (image_limits point.extent) (rolled base marks)
+    MeansAt image ckpt base marks →
+    IsProperTree (image_limits ckpt.geom) (rolled base marks)

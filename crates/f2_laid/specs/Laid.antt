@@ -5,7 +5,7 @@ use Rattle.std.specs.List.{count_by, slice_get, sum_by}
 use Rattle.std.specs.Ordering.{nat_cmp}
 use Rattle.std.specs.FinMap as map
 use Rattle.f2_format.specs.Offsets.{inode_pages}
-use Rattle.f2_format.specs.Geometry.{Extent, node_third, data_third, nid_limit, is_in_node, is_in_data}
+use Rattle.f2_format.specs.Geometry.{ImageGeometry, node_third, data_third, nid_limit, is_in_node, is_in_data}
 use Rattle.f2_format.specs.Nat.{is_second_copy}
 use Rattle.f2_format.specs.Footer.{footer_nid, footer_ino, footer_offset, footer_version}
 use Rattle.f2_format.specs.Inode.{inode_of, NAME_BYTES, NIDS_AN_INODE, SIZE_LIMIT}
@@ -54,29 +54,29 @@ side_of pack_side.B = B
 
 -- A tree that can be stored so: it is good, its numbers are in the node address table, it has at most a third of each
 -- zone, and an inode has room for the addresses of each file's pages.
-pub record IsStorable (extent : Extent) (tree : Rows) : Type 0 where
+pub record IsStorable (geom : ImageGeometry) (tree : Rows) : Type 0 where
   pub good : IsGoodTree SIZE_LIMIT tree
   pub low : (ino : ℕ) (row : Row) → map.get tree ino ≡ Some row → ino ≢ ROOT → 4 ≤ ino
-  pub numbered : (ino : ℕ) (row : Row) → map.get tree ino ≡ Some row → ino < nid_limit extent
-  pub nodes : nodes_of_tree tree ≤ node_third extent
-  pub blocks : data_of_tree tree ≤ data_third extent
+  pub numbered : (ino : ℕ) (row : Row) → map.get tree ino ≡ Some row → ino < nid_limit geom
+  pub nodes : nodes_of_tree tree ≤ node_third geom
+  pub blocks : data_of_tree tree ≤ data_third geom
   pub short_files : (ino page : ℕ) (row : Row) (bytes : List ℕ) → map.get tree ino ≡ Some row → map.get row.pages page ≡ Some bytes → page < inode_pages
   pub short_directories : (ino : ℕ) (row : Row) → map.get tree ino ≡ Some row → row.kind ≡ Directory → dentry_blocks (map.values tree) ino ≤ inode_pages
 
 -- addresses in their zones, no two alike
-pub record IsPlaced (extent : Extent) (places : PlaceMap) : Type 0 where
+pub record IsPlaced (geom : ImageGeometry) (places : PlaceMap) : Type 0 where
   pub whole : (ino : ℕ) (place : Place) → map.get places ino ≡ Some place → length place.addresses ≡ inode_pages
-  pub nodes : (ino : ℕ) (place : Place) → map.get places ino ≡ Some place → IsTrue (is_in_node extent place.at)
+  pub nodes : (ino : ℕ) (place : Place) → map.get places ino ≡ Some place → IsTrue (is_in_node geom place.at)
   pub nodes_apart : (ino other : ℕ) (a b : Place) → map.get places ino ≡ Some a → map.get places other ≡ Some b → a.at ≡ b.at → ino ≡ other
-  pub pages : (ino page : ℕ) (place : Place) → map.get places ino ≡ Some place → page_at place page ≢ 0 → IsTrue (is_in_data extent (page_at place page))
+  pub pages : (ino page : ℕ) (place : Place) → map.get places ino ≡ Some place → page_at place page ≢ 0 → IsTrue (is_in_data geom (page_at place page))
   pub pages_apart : (ino page other more : ℕ) (a b : Place) → map.get places ino ≡ Some a → map.get places other ≡ Some b → page_at a page ≢ 0 → page_at a page ≡ page_at b more
       → (ino ≡ other) × (page ≡ more)
 
 -- places that a third of each zone has room for
-pub record IsKept (extent : Extent) (places : PlaceMap) : Type 0 where
-  pub placed : IsPlaced extent places
-  pub files : map.len places ≤ node_third extent
-  pub pages : sum_by pages_of_place (map.values places) ≤ data_third extent
+pub record IsKept (geom : ImageGeometry) (places : PlaceMap) : Type 0 where
+  pub placed : IsPlaced geom places
+  pub files : map.len places ≤ node_third geom
+  pub pages : sum_by pages_of_place (map.values places) ≤ data_third geom
 
 -- a block is the inode of a row at a place, as a checkpoint writes it
 pub record IsInodeOf (row : Row) (place : Place) (block : List ℕ) : Type 0 where
@@ -122,22 +122,22 @@ pub record StandsIn (image : Image) (tree : Rows) (row : Row) (places : PlaceMap
   pub content : HoldsContent tree row (page_in image place)
 
 -- an image with a checkpoint has a tree laid out plainly, as a checkpoint of this project tells of it
-pub record IsLaidAt (image : Image) (point : Checkpoint) (tree : Rows) (stored : Stored) : Type 0 where
-  pub checkpoint : IsCheckpoint image point
-  pub extent : point.extent ≡ stored.geometry
-  pub side : point.side ≡ side_of stored.side
-  pub version : point.head.version ≡ stored.version
-  pub low : point.head.version < 2 ^ 32
-  pub newer : is_newer_format point.head ≡ true
-  pub copies : (block : ℕ) → block < stored.geometry.nat → is_second_copy point.head.bitmap block ≡ stored.second
-  pub journal : journal_count point.summary ≡ 0
-  pub table : (nid : ℕ) → nid < nid_limit point.extent → (place_of_nid image point nid).1 ≡ at_of (map.get stored.places nid)
+pub record IsLaidAt (image : Image) (ckpt : Checkpoint) (tree : Rows) (stored : Stored) : Type 0 where
+  pub checkpoint : IsCheckpoint image ckpt
+  pub geom : ckpt.geom ≡ stored.geometry
+  pub side : ckpt.side ≡ side_of stored.side
+  pub version : ckpt.head.version ≡ stored.version
+  pub low : ckpt.head.version < 2 ^ 32
+  pub newer : is_newer_format ckpt.head ≡ true
+  pub copies : (block : ℕ) → block < stored.geometry.nat → is_second_copy ckpt.head.bitmap block ≡ stored.second
+  pub journal : journal_count ckpt.summary ≡ 0
+  pub table : (nid : ℕ) → nid < nid_limit ckpt.geom → (place_of_nid image ckpt nid).1 ≡ at_of (map.get stored.places nid)
   pub rows : (ino : ℕ) (row : Row) → map.get tree ino ≡ Some row → StandsIn image tree row stored.places
   pub only : (ino : ℕ) (place : Place) → map.get stored.places ino ≡ Some place → (row : Row) × map.get tree ino ≡ Some row
-  pub placed : IsPlaced point.extent stored.places
+  pub placed : IsPlaced ckpt.geom stored.places
   -- no block of the node zone is of the node log, and no tail is of a later version
-  pub unlogged : (at : ℕ) → IsTrue (is_in_node point.extent at) → footer_version (block_at image at) ≡ 0
-  pub tails : (each : Side) → (head_of (block_at image (tail_address each))).version ≤ point.head.version
+  pub unlogged : (at : ℕ) → IsTrue (is_in_node ckpt.geom at) → footer_version (block_at image at) ≡ 0
+  pub tails : (each : Side) → (head_of (block_at image (tail_address each))).version ≤ ckpt.head.version
 
 abbrev pub IsLaid : Image → Rows → Stored → Type 0
-IsLaid image tree stored = (point : Checkpoint) × IsLaidAt image point tree stored
+IsLaid image tree stored = (ckpt : Checkpoint) × IsLaidAt image ckpt tree stored

@@ -15,8 +15,8 @@ use Rattle.f2_laid.specs.declared.stored.Stored.{Stored}
 -- an image that is laid out plainly stands for its tree, with no marks, and is clean
 abbrev pub LaidImagesMean : Type 0
 LaidImagesMean =
-    (image : Image) (point : Checkpoint) (tree : Rows) (stored : Stored) → IsStorable stored.geometry tree → IsLaidAt image point tree stored
-    → MeansAt image point tree [] × IsCleanAt image point
+    (image : Image) (ckpt : Checkpoint) (tree : Rows) (stored : Stored) → IsStorable stored.geometry tree → IsLaidAt image ckpt tree stored
+    → MeansAt image ckpt tree [] × IsCleanAt image ckpt
 
 -- an image has one tree at most that is laid out so
 abbrev pub OneLaid : Type 0

@@ -98,22 +98,22 @@ module _ (tree : Rows) (stored : Stored) where
 abbrev inode_at : Row → ℕ × ℕ
 inode_at row = (row.ino, 0)
 
-module _ (image : Image) (point : Checkpoint) (tree : Rows) (stored : Stored) (is : IsStored image point tree stored) where
+module _ (image : Image) (ckpt : Checkpoint) (tree : Rows) (stored : Stored) (is : IsStored image ckpt tree stored) where
   -- the inode of each row
   inodes : List (ℕ × ℕ)
   inodes = map_list inode_at (map.values tree)
 
-  in_inodes : (at : ℕ × ℕ) → IsSomeNode image point at → IsIn at inodes
+  in_inodes : (at : ℕ × ℕ) → IsSomeNode image ckpt at → IsIn at inodes
   unfolding inodes
   in_inodes at (nid, is_node) =
-      let own = own_node image point tree stored is at.0 at.1 nid is_node in
+      let own = own_node image ckpt tree stored is at.0 at.1 nid is_node in
       let same : ◌≡◌ {A = ℕ × ℕ} (own.row.ino, 0) at = λ i. (own.at.own i, sym own.first i) in
       subst (λ a. IsIn a inodes) same (in_map inode_at own.row (map.values tree) (value_in tree at.0 own.row own.there))
 
-  pub few_nodes : (limit : ℕ) → limit ≡ node_third point.extent → HasMore (ℕ × ℕ) (IsSomeNode image point) limit → ⊥
+  pub few_nodes : (limit : ℕ) → limit ≡ node_third ckpt.geom → HasMore (ℕ × ℕ) (IsSomeNode image ckpt) limit → ⊥
   unfolding inodes
   few_nodes limit third more =
-      let few = no_more more.some inodes more.differ (all_of (IsSomeNode image point) (λ at. IsIn at inodes) in_inodes more.some more.all) in
+      let few = no_more more.some inodes more.differ (all_of (IsSomeNode image ckpt) (λ at. IsIn at inodes) in_inodes more.some more.all) in
       let long = length-map (map.values tree) inode_at in
       let counted = nodes_counted tree in
       let room = is.can.nodes in
@@ -121,32 +121,32 @@ module _ (image : Image) (point : Checkpoint) (tree : Rows) (stored : Stored) (i
       omega (arith, few, long, counted, room, past, third)
 
   -- the page of a row has a number among those that are counted
-  number_counted : (row : Row) (kind : Kind) → row.kind ≡ kind → (ino page address : ℕ) (at : IsHome image point tree stored ino row) → page_at at.place page ≡ address → address ≢ 0 → IsIn page (page_numbers kind (map.values tree) row)
+  number_counted : (row : Row) (kind : Kind) → row.kind ≡ kind → (ino page address : ℕ) (at : IsHome image ckpt tree stored ino row) → page_at at.place page ≡ address → address ≢ 0 → IsIn page (page_numbers kind (map.values tree) row)
   number_counted row Regular kind ino page address at stands some =
       let there : page_at at.place page ≢ 0 = λ none. some (sym stands ∙ none) in
-      let short = page_short image point tree stored ino row at page there in
+      let short = page_short image ckpt tree stored ino row at page there in
       key_in row.pages page (block_at image (page_at at.place page)) (sym (pages_held tree row (page_in image at.place) at.content kind page short) ∙ block_is_there image (page_at at.place page) there)
   number_counted row Directory kind ino page address at stands some =
       let there : page_at at.place page ≢ 0 = λ none. some (sym stands ∙ none) in
-      let short = page_short image point tree stored ino row at page there in
+      let short = page_short image ckpt tree stored ino row at page there in
       let held = dentries_held tree row (page_in image at.place) at.content kind in
       let within = within_list _ page (block_at image (page_at at.place page)) (sym (held.held page short) ∙ block_is_there image (page_at at.place page) there) in
-      let counted = blocks_counted point.extent (geometry image point tree stored is) tree is.can row.ino held.dentries held.are in
+      let counted = blocks_counted ckpt.geom (geometry image ckpt tree stored is) tree is.can row.ino held.dentries held.are in
       in_range 0 (dentry_blocks (map.values tree) row.ino) page (omega arith) (omega (arith, within, counted))
 
-  in_all : (at : ℕ) → IsBaseBlock image point at → IsIn at (all_addresses tree stored)
+  in_all : (at : ℕ) → IsBaseBlock image ckpt at → IsIn at (all_addresses tree stored)
   unfolding all_addresses addresses_of
   in_all at (ino, page, page_is) =
-      let own = own_page image point tree stored is ino page at page_is in
+      let own = own_page image ckpt tree stored is ino page at page_is in
       let row = own.row in
       let number = number_counted row row.kind refl ino page at own.at own.stands page_is.there in
       let place : map.get stored.places row.ino ≡ Some own.at.place = ap (map.get stored.places) own.at.own ∙ own.at.there in
       let here = in_addresses (map.get stored.places row.ino) own.at.place page (page_numbers row.kind (map.values tree) row) place number in
       subst (λ a. IsIn a (flat_map (addresses_of tree stored) (map.values tree))) own.stands (in_flat_map (addresses_of tree stored) row (page_at own.at.place page) (map.values tree) (value_in tree ino row own.there) here)
 
-  pub few_blocks : (limit : ℕ) → data_third point.extent ≤ limit → HasMore ℕ (IsBaseBlock image point) limit → ⊥
+  pub few_blocks : (limit : ℕ) → data_third ckpt.geom ≤ limit → HasMore ℕ (IsBaseBlock image ckpt) limit → ⊥
   few_blocks limit third more =
-      let few = no_more more.some (all_addresses tree stored) more.differ (all_of (IsBaseBlock image point) (λ at. IsIn at (all_addresses tree stored)) in_all more.some more.all) in
+      let few = no_more more.some (all_addresses tree stored) more.differ (all_of (IsBaseBlock image ckpt) (λ at. IsIn at (all_addresses tree stored)) in_all more.some more.all) in
       let long = length-all_addresses tree stored in
       let room = is.can.blocks in
       let past = more.more in

@@ -11,7 +11,7 @@ pub mod Members
 pub mod Nodes
 pub mod NoLog
 pub mod One
-pub mod OnePoint
+pub mod OneCheckpoint
 pub mod Refuted
 pub mod Sound
 pub mod Table

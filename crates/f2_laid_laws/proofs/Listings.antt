@@ -11,7 +11,7 @@ use Rattle.std.specs.FinSet as set
 use Rattle.std.proofs.lemmas.Bool.{and_parts, leb-true, eq-eqb, ne_eqb, cond-false}
 use Rattle.std.proofs.lemmas.List.Elements.{All-weaker, recursion_from_All}
 use Rattle.f2_format.specs.Offsets.{inode_pages}
-use Rattle.f2_format.specs.Geometry.{Extent, IsGeometry}
+use Rattle.f2_format.specs.Geometry.{ImageGeometry, IsGeometry}
 use Rattle.f2_format.specs.Dentry.{Dentry, dentries_of, dentry_at, begins_name, REGULAR_TYPE, DIRECTORY_TYPE, dentry_fault}
 use Rattle.f2_format.specs.Packing.{blocks_of_names}
 use Rattle.f2_model.specs.Rising.{rising}
@@ -98,7 +98,7 @@ type_fits : (kind : Kind) (type : ℕ) → type ≡ type_of_kind kind → (type 
 type_fits Regular type is = inl is
 type_fits Directory type is = inr is
 
-module _ (extent : Extent) (geometry : IsGeometry extent) (tree : Rows) (can : IsStorable extent tree) where
+module _ (geom : ImageGeometry) (geometry : IsGeometry geom) (tree : Rows) (can : IsStorable geom tree) where
   bound_fits : (directory : ℕ) (dentry : Dentry) → IsBound tree directory dentry → IsFitting dentry
   bound_fits directory dentry bound =
       let low = can.numbered dentry.ino bound.row bound.there in
@@ -147,16 +147,16 @@ module _ (extent : Extent) (geometry : IsGeometry extent) (tree : Rows) (can : I
     blocks_counted = length-packed_blocks dentries ∙ ap blocks_of_names are.names
 
 -- what a directory of a tree that is laid out holds, seen from the image
-module _ (image : Image) (point : Checkpoint) (tree : Rows) (stored : Stored) (can : IsStorable point.extent tree) (geometry : IsGeometry point.extent) (ino : ℕ) (row : Row) (there : map.get tree ino ≡ Some row)
-    (at : IsHome image point tree stored ino row) (held : HoldsDentries tree row (page_in image at.place)) where
+module _ (image : Image) (ckpt : Checkpoint) (tree : Rows) (stored : Stored) (can : IsStorable ckpt.geom tree) (geometry : IsGeometry ckpt.geom) (ino : ℕ) (row : Row) (there : map.get tree ino ≡ Some row)
+    (at : IsHome image ckpt tree stored ino row) (held : HoldsDentries tree row (page_in image at.place)) where
   -- a block of it
-  pub block_held : (page address : ℕ) → IsDirectoryBlock image point ino page address → slice_get (packed_blocks held.dentries) page ≡ Some (block_at image address)
+  pub block_held : (page address : ℕ) → IsDirectoryBlock image ckpt ino page address → slice_get (packed_blocks held.dentries) page ≡ Some (block_at image address)
   block_held page address block =
-      let stands : page_at at.place page ≡ address = sym (page_found image point tree stored ino row at Directory block.inode page block.is block.within) ∙ block.at_page in
-      let short = page_short image point tree stored ino row at page (λ none. block.there (sym stands ∙ none)) in
+      let stands : page_at at.place page ≡ address = sym (page_found image ckpt tree stored ino row at Directory block.inode page block.is block.within) ∙ block.at_page in
+      let short = page_short image ckpt tree stored ino row at page (λ none. block.there (sym stands ∙ none)) in
       sym (held.held page short) ∙ ap (block_there image) stands ∙ block_is_there image address block.there
 
-  pub seen_at : (page slot : ℕ) (dentry : Dentry) → HasDentryAt image point ino page slot dentry → IsAt (packed_blocks held.dentries) page slot dentry
+  pub seen_at : (page slot : ℕ) (dentry : Dentry) → HasDentryAt image ckpt ino page slot dentry → IsAt (packed_blocks held.dentries) page slot dentry
   seen_at page slot dentry has = record {
     block = block_at image has.at;
     there = block_held page has.at has.block;
@@ -165,10 +165,10 @@ module _ (image : Image) (point : Checkpoint) (tree : Rows) (stored : Stored) (c
     is = has.is;
   }
 
-  pub shown_at : row.kind ≡ Directory → (page slot : ℕ) (dentry : Dentry) → IsAt (packed_blocks held.dentries) page slot dentry → HasDentryAt image point ino page slot dentry
+  pub shown_at : row.kind ≡ Directory → (page slot : ℕ) (dentry : Dentry) → IsAt (packed_blocks held.dentries) page slot dentry → HasDentryAt image ckpt ino page slot dentry
   shown_at kind page slot dentry is =
       let few = can.short_directories ino row there kind in
-      let counted = blocks_counted point.extent geometry tree can row.ino held.dentries held.are in
+      let counted = blocks_counted ckpt.geom geometry tree can row.ino held.dentries held.are in
       let own = ap (dentry_blocks (map.values tree)) at.own in
       let within = within_list (packed_blocks held.dentries) page is.block is.there in
       let short : page < inode_pages = omega arith in
@@ -176,10 +176,10 @@ module _ (image : Image) (point : Checkpoint) (tree : Rows) (stored : Stored) (c
       record {
         at = page_at at.place page;
         block = record {
-          inode = inode_block image point tree stored ino row at;
-          is = subst (λ k. IsInode image point ino k (inode_block image point tree stored ino row at)) kind (is_inode image point tree stored ino row at);
+          inode = inode_block image ckpt tree stored ino row at;
+          is = subst (λ k. IsInode image ckpt ino k (inode_block image ckpt tree stored ino row at)) kind (is_inode image ckpt tree stored ino row at);
           within = omega arith;
-          at_page = page_found image point tree stored ino row at row.kind _ page (is_inode image point tree stored ino row at) (omega arith);
+          at_page = page_found image ckpt tree stored ino row at row.kind _ page (is_inode image ckpt tree stored ino row at) (omega arith);
           there = block.0;
         };
         within = is.within;

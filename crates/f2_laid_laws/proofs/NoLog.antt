@@ -32,32 +32,32 @@ recovery_there : (head : HeadFields) → 1 ≤ head.version → head.version < 2
 recovery_there head some low newer same =
     some_recovery head.version (written_seal head) some low (same ∙ ap (λ b. cond b ((head.version + 2 ^ 32 * written_seal head) % 2 ^ 64) head.version) newer)
 
-module _ (image : Image) (point : Checkpoint) (tree : Rows) (stored : Stored) (is : IsStored image point tree stored) where
-  pub version_some : 1 ≤ point.head.version
+module _ (image : Image) (ckpt : Checkpoint) (tree : Rows) (stored : Stored) (is : IsStored image ckpt tree stored) where
+  pub version_some : 1 ≤ ckpt.head.version
   version_some = subst (λ head. 1 ≤ head.version) (sym is.laid.checkpoint.head) is.laid.checkpoint.newest.valid.version
 
-  start_inside : is_in_node point.extent point.head.log_start ≡ true
-  start_inside = subst (λ head. is_in_node point.extent head.log_start ≡ true) (sym is.laid.checkpoint.head) is.laid.checkpoint.newest.valid.log_start
+  start_inside : is_in_node ckpt.geom ckpt.head.log_start ≡ true
+  start_inside = subst (λ head. is_in_node ckpt.geom head.log_start ≡ true) (sym is.laid.checkpoint.head) is.laid.checkpoint.newest.valid.log_start
 
-  pub no_chain : chain image point ≡ []
+  pub no_chain : chain image ckpt ≡ []
   unfolding chain
   no_chain =
-      let unlogged = is.laid.unlogged point.head.log_start start_inside in
-      none_from image (recovery_version point) _ point.head.log_start (λ same. recovery_there point.head version_some is.laid.low is.laid.newer (sym unlogged ∙ same))
+      let unlogged = is.laid.unlogged ckpt.head.log_start start_inside in
+      none_from image (recovery_version ckpt) _ ckpt.head.log_start (λ same. recovery_there ckpt.head version_some is.laid.low is.laid.newer (sym unlogged ∙ same))
 
-  pub none_within : (place : ℕ) → place < length (chain image point) → ⊥
-  none_within place within = let none : length (chain image point) ≡ 0 = ap (λ (log : List Logged). length log) no_chain in omega arith
+  pub none_within : (place : ℕ) → place < length (chain image ckpt) → ⊥
+  none_within place within = let none : length (chain image ckpt) ≡ 0 = ap (λ (log : List Logged). length log) no_chain in omega arith
 
-  pub none_marked : (place : ℕ) (block : List ℕ) → IsMarkedAt image point place block → ⊥
+  pub none_marked : (place : ℕ) (block : List ℕ) → IsMarkedAt image ckpt place block → ⊥
   none_marked place block is_marked = none_within place is_marked.within
 
-  pub none_taken : (place : ℕ) (block : List ℕ) → IsTaken image point place block → ⊥
+  pub none_taken : (place : ℕ) (block : List ℕ) → IsTaken image ckpt place block → ⊥
   none_taken place block (marked is_marked) = none_marked place block is_marked
   none_taken place block (direct counted is_direct) = none_marked counted.mark counted.inode counted.marked
 
-  pub of_base : (ino page at : ℕ) → IsPage image point ino page at → IsBasePage image point ino page at
+  pub of_base : (ino page at : ℕ) → IsPage image ckpt ino page at → IsBasePage image ckpt ino page at
   of_base ino page at (inl base) = base
   of_base ino page at (inr is_marked) = absurd (none_marked is_marked.place is_marked.inode is_marked.marked)
 
-  pub no_marks : (base : Rows) → AreMarks image point base []
-  no_marks base = subst (λ log. AllZip (IsMark image point base log) (marked_places log) []) (sym no_chain) tt
+  pub no_marks : (base : Rows) → AreMarks image ckpt base []
+  no_marks base = subst (λ log. AllZip (IsMark image ckpt base log) (marked_places log) []) (sym no_chain) tt

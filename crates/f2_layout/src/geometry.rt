@@ -64,19 +64,19 @@ pub struct Geometry {
 }
 
 impl Model for Geometry {
-    ghost use Rattle.f2_format.specs.Geometry.{Extent, IsGeometry};
+    ghost use Rattle.f2_format.specs.Geometry.{ImageGeometry, IsGeometry};
 
-    ghost Value = { Extent };
+    ghost Value = { ImageGeometry };
 
     ghost view = { λ g. record { blocks = g.blocks; nat = g.nat } };
 
     ghost invariant = { λ g. IsGeometry (record { blocks = g.blocks; nat = g.nat }) };
 
-    ghost inverse = { λ extent. record { blocks = extent.blocks; nat = extent.nat } };
+    ghost inverse = { λ geom. record { blocks = geom.blocks; nat = geom.nat } };
 }
 
 impl Geometry {
-    ghost use Rattle.f2_format.specs.Geometry.{Extent};
+    ghost use Rattle.f2_format.specs.Geometry.{ImageGeometry};
     ghost use Rattle.f2_layout.specs.Refusal.{geometry_of};
 
     /// An image of `blocks` blocks, with `nat` blocks in each copy of its node address table.

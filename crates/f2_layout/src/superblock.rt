@@ -1,7 +1,7 @@
 //! The superblock.
 
 ghost use Rattle.std.specs.Prelude.{◌≡◌, ◌≤◌, ◌↔◌, ℕ, IsOk, IfOk};
-ghost use Rattle.f2_format.specs.Superblock.{IsSuper, super_extent, super_block};
+ghost use Rattle.f2_format.specs.Superblock.{IsSuper, super_geom, super_block};
 
 use crate::geometry::Geometry;
 use f2_bytes::{Block, get32, get64, put32, put64};
@@ -27,7 +27,7 @@ pub struct BadSuper;
 /// The geometry that a superblock tells, where magic number and tag are right, the sizes break no limit, and
 /// the device has that many blocks.
 pub fn read_super(b: &Block, device: u32) -> Result<Geometry, BadSuper>
-    ensures ok { IfOk result (λ g. g ≡ super_extent b.now) }
+    ensures ok { IfOk result (λ g. g ≡ super_geom b.now) }
     ensures right { IsOk result ↔ IsSuper b.now device }
 {
     if get32(b, MAGIC_AT) != MAGIC || get64(b, TAG_AT) != TAG {
@@ -42,7 +42,7 @@ pub fn read_super(b: &Block, device: u32) -> Result<Geometry, BadSuper>
 /// Makes the block the superblock of an image. Every byte that is no field's is 0.
 pub fn write_super(b: &mut Block, g: &Geometry)
     ensures written { b.new ≡ super_block g.now }
-    ensures reads_back { super_extent b.new ≡ g.now }
+    ensures reads_back { super_geom b.new ≡ g.now }
     ensures right { (device : ℕ) → g.now.blocks ≤ device → IsSuper b.new device }
 {
     *b = [0; 4096];

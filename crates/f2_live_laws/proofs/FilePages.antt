@@ -4,7 +4,7 @@ use Rattle.std.specs.Prelude.{Option, Some, None}
 use Rattle.std.specs.Option.{unwrap_or}
 use Rattle.std.specs.FinMap as map
 use Rattle.f2_format.specs.Offsets.{page_limit}
-use Rattle.f2_format.specs.Geometry.{Extent, is_in_data}
+use Rattle.f2_format.specs.Geometry.{ImageGeometry, is_in_data}
 use Rattle.f2_disk.specs.Contents.{Contents, last_of}
 use Rattle.f2_model.specs.State.{State}
 use Rattle.f2_model.specs.declared.rows.Row.{Row}
@@ -18,7 +18,7 @@ use Rattle.f2_place_laws.proofs.PageKinds.{regular_page}
 use Rattle.f2_place_laws.proofs.Stood.{in_data_some}
 use Rattle.f2_live_laws.specs.Marking.{MayBeMarked}
 
-module _ (lists : Contents) (extent : Extent) (state : State) (places : Places) (unwritten : Unwritten) (ino : ℕ) (row : Row) (live : IsLiveAt lists extent state.live places unwritten) (may : MayBeMarked lists state places unwritten ino row) where
+module _ (lists : Contents) (geom : ImageGeometry) (state : State) (places : Places) (unwritten : Unwritten) (ino : ℕ) (row : Row) (live : IsLiveAt lists geom state.live places unwritten) (may : MayBeMarked lists state places unwritten ino row) where
   -- a page of the row has a place
   pub has_place : (page : ℕ) → IsSome (map.get row.pages page) → IsSome (map.get places.pages (ino, page))
   has_place page has = subst (λ of. IsSome (map.get places.pages (of, page))) may.own (live.rows ino row may.there may.regular page has)
@@ -28,7 +28,7 @@ module _ (lists : Contents) (extent : Extent) (state : State) (places : Places) 
   page_within page bytes has = let at = the_one (map.get places.pages (ino, page)) (has_place page (ap is_some has)) in (live.laid.pages ino page at.0 at.1).within
 
   -- what has a place stands there
-  stands : (page at : ℕ) → map.get places.pages (ino, page) ≡ Some at → IsPageHere extent state.live places ino page at (last_of (contents_at lists at))
+  stands : (page at : ℕ) → map.get places.pages (ino, page) ≡ Some at → IsPageHere geom state.live places ino page at (last_of (contents_at lists at))
   stands page at told = live.pages ino page at told (may.written page at told)
 
   no_page : (page : ℕ) → map.get places.pages (ino, page) ≡ None → map.get row.pages page ≡ None
@@ -49,8 +49,8 @@ module _ (lists : Contents) (extent : Extent) (state : State) (places : Places) 
           let here = stands page at e in
           let bytes : map.get row.pages page ≡ Some (last_of (contents_at lists at)) = regular_page places row page (last_of (contents_at lists at)) may.regular (here.own row may.there) in
           subst (λ of. HasPage lists of (map.get row.pages page)) (sym (ap (λ o. unwrap_or o 0) e))
-          (subst (HasPage lists at) (sym bytes) (there at (last_of (contents_at lists at)) (in_data_some extent at here.in_zone) (may.flushed page at e)))
+          (subst (HasPage lists at) (sym bytes) (there at (last_of (contents_at lists at)) (in_data_some geom at here.in_zone) (may.flushed page at e)))
 
   -- and a place is in the data zone
-  pub place_in_zone : (page : ℕ) → page_at places ino page ≢ 0 → IsTrue (is_in_data extent (page_at places ino page))
+  pub place_in_zone : (page : ℕ) → page_at places ino page ≢ 0 → IsTrue (is_in_data geom (page_at places ino page))
   place_in_zone page some = (stands page (page_at places ino page) (page_told places ino page (page_at places ino page) refl some)).in_zone

@@ -1,7 +1,7 @@
 -- A change of the live tree in memory alone: what isn't to be written after it stands as it stood.
 use Rattle.std.proofs.Common.{◌≡◌, ℕ, List, sym, ap, ◌∙◌, refl}
 use Rattle.std.specs.Prelude.{Some}
-use Rattle.f2_format.specs.Geometry.{Extent}
+use Rattle.f2_format.specs.Geometry.{ImageGeometry}
 use Rattle.f2_disk.specs.Contents.{last_of}
 use Rattle.f2_model.specs.Tree.{Rows}
 use Rattle.f2_model.specs.declared.rows.Row.{Row}
@@ -33,8 +33,8 @@ module _ (tree after : Rows) (places now : Places) where
           let held = directory_page places same.before page block (same.kind ∙ is) own in
           of_directory now row page block is (held.0, held.1 ∙ ap (λ of. dentries_at places of page) same.own ∙ sym (same.dentries is))
 
-  module _ (extent : Extent) (unwritten : Unwritten) where
-    node_stays : (ino offset : ℕ) (node : NodeAt) (block : List ℕ) → IsSameNode tree after places now unwritten ino offset node → IsNodeHere extent tree places ino offset node block → IsNodeHere extent after now ino offset node block
+  module _ (geom : ImageGeometry) (unwritten : Unwritten) where
+    node_stays : (ino offset : ℕ) (node : NodeAt) (block : List ℕ) → IsSameNode tree after places now unwritten ino offset node → IsNodeHere geom tree places ino offset node block → IsNodeHere geom after now ino offset node block
     node_stays ino offset node block same here = record {
       in_zone = here.in_zone;
       own = record {
@@ -47,20 +47,20 @@ module _ (tree after : Rows) (places now : Places) where
       inode = λ first row there. let as_before = same.inode first row there in inode_stays ino row block as_before (here.inode first as_before.before as_before.there);
     }
 
-    page_here_stays : (ino page at : ℕ) (block : List ℕ) → StaysAtPage tree after places now unwritten ino page at → IsPageHere extent tree places ino page at block → IsPageHere extent after now ino page at block
+    page_here_stays : (ino page at : ℕ) (block : List ℕ) → StaysAtPage tree after places now unwritten ino page at → IsPageHere geom tree places ino page at block → IsPageHere geom after now ino page at block
     page_here_stays ino page at block same here = record {
       in_zone = here.in_zone;
       own = λ row there. let as_before = same.content row there in page_stays ino page row block as_before (here.own as_before.before as_before.there);
     }
 
 pub changes_in_memory_keep_live : ChangesInMemoryKeepLive
-changes_in_memory_keep_live lists extent tree after places now unwritten left live laid rows changes = record {
+changes_in_memory_keep_live lists geom tree after places now unwritten left live laid rows changes = record {
   laid = laid;
   nodes = λ ino offset node there out.
       let same = changes.nodes ino offset node there out in
-      node_stays tree after places now extent unwritten ino offset node (last_of (contents_at lists node.at)) same (live.nodes ino offset node same.stood same.written);
+      node_stays tree after places now geom unwritten ino offset node (last_of (contents_at lists node.at)) same (live.nodes ino offset node same.stood same.written);
   pages = λ ino page at there out.
       let same = changes.pages ino page at there out in
-      page_here_stays tree after places now extent unwritten ino page at (last_of (contents_at lists at)) same (live.pages ino page at same.stood same.written);
+      page_here_stays tree after places now geom unwritten ino page at (last_of (contents_at lists at)) same (live.pages ino page at same.stood same.written);
   rows = rows;
 }

@@ -56,7 +56,7 @@ module _ (layout : Layout) (block : List ℕ) (owners : Owners) where
 
   -- the direct node of a page by an ino and the offset of the node
   abbrev direct_by : ℕ → ℕ → Option ℕ → Option (List ℕ)
-  direct_by page ino offset = or_below (logged_direct (chained drawn) (length layout.log) ino offset) (base_direct layout.base.image layout.base.point (node layout.base.image layout.base.point ino) page)
+  direct_by page ino offset = or_below (logged_direct (chained drawn) (length layout.log) ino offset) (base_direct layout.base.image layout.base.ckpt (node layout.base.image layout.base.ckpt ino) page)
 
   address_by_block : (page : ℕ) → address_at drawn (length layout.log) page ≡ address_in block (direct_by page (footer_ino block) (direct_of page)) page
   address_by_block page = ap (λ (b : List ℕ). address_in b (direct_by page (footer_ino b) (direct_of page)) page) drawn_there
@@ -73,7 +73,7 @@ module _ (layout : Layout) (block : List ℕ) (owners : Owners) where
         let other : footer_offset block ≢ offset = λ same. no_inode page offset direct (sym same ∙ mark_is_inode block is.marked) in
         ap (λ of. word_of (direct_by page of (direct_of page)) (direct_slot page)) is.footer_ino
         ∙ ap (λ at. word_of (direct_by page ino at) (direct_slot page)) direct
-        ∙ ap (λ count. word_of (or_below (last_before (chained drawn) count ino offset) (base_direct layout.base.image layout.base.point (node layout.base.image layout.base.point ino) page)) (direct_slot page)) all_positions
+        ∙ ap (λ count. word_of (or_below (last_before (chained drawn) count ino offset) (base_direct layout.base.image layout.base.ckpt (node layout.base.image layout.base.ckpt ino) page)) (direct_slot page)) all_positions
         ∙ told_still layout block owners ino offset page (other_offset block ino offset other)
         ∙ tells.told ino page offset row there regular whole direct (clean page offset direct)
 
@@ -98,13 +98,13 @@ live_files_give_marks lists layout state places unwritten ino row block owners p
   name_length = subst (λ (b : List ℕ). (inode_of b).name_length ≤ NAME_BYTES) (sym at_place) (at_most NAME_BYTES (inode_of block).name_length (λ long. is.inode.own (inr (inl long))));
   named = subst (λ (b : List ℕ). IsNamed state.base b row (map.get state.base ino)) (sym at_place) is.named;
   dentry = ap has_dentry_mark at_place ∙ is.dentry;
-  within = page_within lists layout.base.point.extent state places unwritten ino row live may;
-  pages = λ page within. subst (λ at. HasPage lists at (map.get row.pages page)) (sym (address page within)) (page_held lists layout.base.point.extent state places unwritten ino row live may page);
+  within = page_within lists layout.base.ckpt.geom state places unwritten ino row live may;
+  pages = λ page within. subst (λ at. HasPage lists at (map.get row.pages page)) (sym (address page within)) (page_held lists layout.base.ckpt.geom state places unwritten ino row live may page);
   owned = λ page within some.
       subst (λ at. map.get owners at ≡ Some (ino, page)) (sym (address page within)) (owned page (page_at places ino page) (page_told places ino page (page_at places ino page) refl (λ zero. some (address page within ∙ zero))));
   in_zone = λ page within some.
-      subst (λ at. IsTrue (is_in_data layout.base.point.extent at)) (sym (address page within))
-      (place_in_zone lists layout.base.point.extent state places unwritten ino row live may page (λ zero. some (address page within ∙ zero)));
+      subst (λ at. IsTrue (is_in_data layout.base.ckpt.geom at)) (sym (address page within))
+      (place_in_zone lists layout.base.ckpt.geom state places unwritten ino row live may page (λ zero. some (address page within ∙ zero)));
 }
   where
     at_place : block_in (chained (with_drawn layout block owners)) (length layout.log) ≡ block

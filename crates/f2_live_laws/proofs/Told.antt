@@ -18,7 +18,7 @@ use Rattle.f2_live_laws.proofs.LongerLogs.{no_inode, mark_is_inode, is_the_node,
 module _ (layout : Layout) (block : List ℕ) (owners : Owners) (ino offset page : ℕ) where
   -- the address of a page by the last block of its direct node
   abbrev address_by : Option (List ℕ) → ℕ
-  address_by last = word_of (or_below last (base_direct layout.base.image layout.base.point (node layout.base.image layout.base.point ino) page)) (direct_slot page)
+  address_by last = word_of (or_below last (base_direct layout.base.image layout.base.ckpt (node layout.base.image layout.base.ckpt ino) page)) (direct_slot page)
 
   -- a block that isn't the direct node changes nothing of it
   pub told_still : is_node_of block ino offset ≡ false → told_address (with_drawn layout block owners) ino offset page ≡ told_address layout ino offset page

@@ -3,7 +3,7 @@ use Rattle.std.specs.Prelude.{◌≡◌, ℕ, ◌<◌, false, Some}
 use Rattle.std.specs.FinMap as map
 use Rattle.std.specs.FinSet as set
 use Rattle.f2_format.specs.Offsets.{inode_pages, direct_of}
-use Rattle.f2_format.specs.Geometry.{Extent}
+use Rattle.f2_format.specs.Geometry.{ImageGeometry}
 use Rattle.f2_disk.specs.Contents.{Contents}
 use Rattle.f2_model.specs.Tree.{Rows}
 use Rattle.f2_model.specs.declared.rows.Row.{Row}
@@ -50,9 +50,9 @@ pub record ChangesInMemory (tree after : Rows) (places now : Places) (unwritten 
 -- such a change keeps the live tree at its places
 abbrev pub ChangesInMemoryKeepLive : Type 0
 ChangesInMemoryKeepLive =
-    (lists : Contents) (extent : Extent) (tree after : Rows) (places now : Places) (unwritten left : Unwritten) →
-    IsLiveAt lists extent tree places unwritten →
-    HasPlaces extent after now →
+    (lists : Contents) (geom : ImageGeometry) (tree after : Rows) (places now : Places) (unwritten left : Unwritten) →
+    IsLiveAt lists geom tree places unwritten →
+    HasPlaces geom after now →
     ((ino : ℕ) (row : Row) → map.get after ino ≡ Some row → HasItsPages now row) →
     ChangesInMemory tree after places now unwritten left →
-    IsLiveAt lists extent after now left
+    IsLiveAt lists geom after now left

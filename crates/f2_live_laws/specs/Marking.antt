@@ -46,7 +46,7 @@ LiveFilesGiveMarks =
     (lists : Contents) (layout : Layout) (state : State) (places : Places) (unwritten : Unwritten) (ino : ℕ) (row : Row) (block : List ℕ) (owners : Owners) →
     KeepsPacks lists layout state →
     KeepsLog lists layout state →
-    IsLiveAt lists layout.base.point.extent state.live places unwritten →
+    IsLiveAt lists layout.base.ckpt.geom state.live places unwritten →
     LogTellsLive layout state places →
     MayBeMarked lists state places unwritten ino row →
     IsMarkOf state places ino row block →

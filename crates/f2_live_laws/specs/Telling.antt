@@ -32,5 +32,5 @@ abbrev pub CheckpointsTellAll : Type 0
 CheckpointsTellAll =
     (layout : Layout) (state : State) (places : Places) →
     layout.log ≡ [] →
-    IsTreeAt layout.base.image layout.base.point state.live places →
+    IsTreeAt layout.base.image layout.base.ckpt state.live places →
     LogTellsLive layout state places

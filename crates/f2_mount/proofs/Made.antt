@@ -2,7 +2,7 @@
 use Rattle.std.proofs.Common.{◌≡◌, inl, ◌<◌, [], ◌∷◌, length, refl, sym, ap, ◌∙◌, subst, arith}
 use Rattle.std.specs.Prelude.{if◌then◌else◌}
 use Rattle.std.proofs.lemmas.List.Elements.{All-map}
-use Rattle.f2_format.specs.Geometry.{Extent}
+use Rattle.f2_format.specs.Geometry.{ImageGeometry}
 use Rattle.f2_disk.specs.Contents.{Contents, IsImage, alone}
 use Rattle.f2_disk.proofs.ContentsLaws.{latest_alone}
 use Rattle.f2_disk.proofs.PickLaws.{latest_image}
@@ -25,31 +25,31 @@ use Rattle.f2_mount.specs.Making.{new_image, IsNewImage, HasNewImage}
 image_alone : (image : Image) → IsImage (alone image) image
 image_alone image = subst (IsImage (alone image)) (latest_alone image) (latest_image (alone image) (All-map (λ list. 0 < length list) (λ content. content ∷ []) image (λ k d h. omega arith)))
 
-module _ (image : Image) (point : Checkpoint) (stored : Stored) (laid : IsLaidAt image point root_alone stored) (first : stored.version ≡ 1) where
-  is_stored : IsStored image point root_alone stored
-  is_stored = record { can = root_storable point.extent (sizes_right image point.extent laid.checkpoint.sized); laid = laid }
+module _ (image : Image) (ckpt : Checkpoint) (stored : Stored) (laid : IsLaidAt image ckpt root_alone stored) (first : stored.version ≡ 1) where
+  is_stored : IsStored image ckpt root_alone stored
+  is_stored = record { can = root_storable ckpt.geom (sizes_right image ckpt.geom laid.checkpoint.sized); laid = laid }
 
   -- such an image stands for what may remain of a new one
   left_new : IsLeft (initial new_image) image
   left_new = record {
-    point = point;
+    ckpt = ckpt;
     meaning = new_image;
     remains = inl (0, omega arith, omega arith, refl);
     means = record {
       checkpoint = laid.checkpoint;
-      sound = sound image point root_alone stored is_stored;
-      is_base = is_base image point root_alone stored is_stored;
-      are_marks = no_marks image point root_alone stored is_stored root_alone;
+      sound = sound image ckpt root_alone stored is_stored;
+      is_base = is_base image ckpt root_alone stored is_stored;
+      are_marks = no_marks image ckpt root_alone stored is_stored root_alone;
     };
     version = laid.version ∙ first;
     format = ap (λ b. if b then Two else One) laid.newer;
-    clean = clean image point root_alone stored is_stored;
+    clean = clean image ckpt root_alone stored is_stored;
   }
 
 -- a disk that holds it alone has a new image
-pub has_new : (extent : Extent) (stored : Stored) → stored.geometry ≡ extent → stored.version ≡ 1 → (before after : Contents) → IsMade stored before after → HasNewImage extent before after
-has_new extent stored sizes first before after (image, one, supers, (point, laid)) = subst (IsNewImage extent) (sym one) record {
-  safe = ((image, image_alone image), λ left is. subst (IsLeft (initial new_image)) (sym (alone_left image left is)) (left_new image point stored laid first));
-  sized = λ left is. subst (λ i. IsSized i extent) (sym (alone_left image left is)) (subst (IsSized image) (laid.extent ∙ sizes) laid.checkpoint.sized);
+pub has_new : (geom : ImageGeometry) (stored : Stored) → stored.geometry ≡ geom → stored.version ≡ 1 → (before after : Contents) → IsMade stored before after → HasNewImage geom before after
+has_new geom stored sizes first before after (image, one, supers, (ckpt, laid)) = subst (IsNewImage geom) (sym one) record {
+  safe = ((image, image_alone image), λ left is. subst (IsLeft (initial new_image)) (sym (alone_left image left is)) (left_new image ckpt stored laid first));
+  sized = λ left is. subst (λ i. IsSized i geom) (sym (alone_left image left is)) (subst (IsSized image) (laid.geom ∙ sizes) laid.checkpoint.sized);
   settled = All-map (λ list. length list ≡ 1) (λ content. content ∷ []) image (λ k d h. refl);
 }

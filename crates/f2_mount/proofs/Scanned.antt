@@ -2,7 +2,7 @@
 use Rattle.std.proofs.Common.{◌≡◌, ℕ, ◌<◌, ◌^◌, List, refl, sym, ap, ◌∙◌, subst, arith}
 use Rattle.std.specs.Prelude.{Option, IfSome}
 use Rattle.f2_disk.specs.Contents.{Contents, latest}
-use Rattle.f2_format.specs.Geometry.{Extent, IsGeometry, node_third}
+use Rattle.f2_format.specs.Geometry.{ImageGeometry, IsGeometry, node_third}
 use Rattle.f2_format.specs.Pack.{HeadFields, recovery_version_of}
 use Rattle.f2_pack.specs.Packs.{fields_of}
 use Rattle.f2_image.specs.Images.{Image}
@@ -17,37 +17,37 @@ use Rattle.f2_start.specs.Starts.{IsStartOf}
 use Rattle.f2_start.specs.declared.reading.Start.{Start}
 
 -- a third of a node zone is small
-pub small_third : (extent : Extent) → IsGeometry extent → node_third extent < 2 ^ 31
-small_third extent sizes = let most = sizes.most_blocks in omega (arith, most)
+pub small_third : (geom : ImageGeometry) → IsGeometry geom → node_third geom < 2 ^ 31
+small_third geom sizes = let most = sizes.most_blocks in omega (arith, most)
 
-chain_is : (image : Image) (point : Checkpoint) → log_of image point ≡ chain image point
+chain_is : (image : Image) (ckpt : Checkpoint) → log_of image ckpt ≡ chain image ckpt
 unfolding chain
-chain_is image point = refl
+chain_is image ckpt = refl
 
-module _ (held : Option Contents) (start : Start) (image : Image) (point : Checkpoint) (version : ℕ) (tells : Tells held image) (is : IsStartOf start point)
+module _ (held : Option Contents) (start : Start) (image : Image) (ckpt : Checkpoint) (version : ℕ) (tells : Tells held image) (is : IsStartOf start ckpt)
     (carried : version ≡ recovery_version_of (fields_of start.pack.head start.geometry.nat)) where
-  same_log : log_from start.geometry (latest tells.0) version start.pack.head.log_start ≡ chain image point
+  same_log : log_from start.geometry (latest tells.0) version start.pack.head.log_start ≡ chain image ckpt
   same_log =
-      ap (λ (e : Extent). log_from e (latest tells.0) version start.pack.head.log_start) (sym is.extent_is)
-      ∙ ap (λ (i : Image). log_from point.extent i version start.pack.head.log_start) (sym tells.2)
-      ∙ ap (λ (v : ℕ). log_from point.extent image v start.pack.head.log_start) (carried ∙ ap recovery_version_of (sym is.head_is))
-      ∙ ap (λ (n : ℕ). log_from point.extent image (recovery_version point) n) (ap (λ (f : HeadFields). f.log_start) (sym is.head_is))
-      ∙ chain_is image point
+      ap (λ (e : ImageGeometry). log_from e (latest tells.0) version start.pack.head.log_start) (sym is.geom_is)
+      ∙ ap (λ (i : Image). log_from ckpt.geom i version start.pack.head.log_start) (sym tells.2)
+      ∙ ap (λ (v : ℕ). log_from ckpt.geom image v start.pack.head.log_start) (carried ∙ ap recovery_version_of (sym is.head_is))
+      ∙ ap (λ (n : ℕ). log_from ckpt.geom image (recovery_version ckpt) n) (ap (λ (f : HeadFields). f.log_start) (sym is.head_is))
+      ∙ chain_is image ckpt
 
   -- what is said of the log that was scanned is said of the chain
-  of_chain : (P : Extent → List Logged → Type 0) → IfSome held (λ lists. P start.geometry (log_from start.geometry (latest lists) version start.pack.head.log_start)) → P point.extent (chain image point)
+  of_chain : (P : ImageGeometry → List Logged → Type 0) → IfSome held (λ lists. P start.geometry (log_from start.geometry (latest lists) version start.pack.head.log_start)) → P ckpt.geom (chain image ckpt)
   of_chain P said =
-      subst (λ (l : List Logged). P point.extent l) same_log
-      (subst (λ (e : Extent). P e (log_from start.geometry (latest tells.0) version start.pack.head.log_start)) (sym is.extent_is)
+      subst (λ (l : List Logged). P ckpt.geom l) same_log
+      (subst (λ (e : ImageGeometry). P e (log_from start.geometry (latest tells.0) version start.pack.head.log_start)) (sym is.geom_is)
       (subst (λ (o : Option Contents). IfSome o (λ lists. P start.geometry (log_from start.geometry (latest lists) version start.pack.head.log_start))) tells.1 said))
 
-  pub is_chain : (log : List Logged) → IfSome held (λ lists. log ≡ log_from start.geometry (latest lists) version start.pack.head.log_start) → log ≡ chain image point
+  pub is_chain : (log : List Logged) → IfSome held (λ lists. log ≡ log_from start.geometry (latest lists) version start.pack.head.log_start) → log ≡ chain image ckpt
   is_chain log said = of_chain (λ _ l. log ≡ l) said
 
-  pub no_fault : (log : List Logged) → IfSome held (λ lists. log ≡ log_from start.geometry (latest lists) version start.pack.head.log_start) → IsRightLog start.geometry log → HasNoLogFault image point
+  pub no_fault : (log : List Logged) → IfSome held (λ lists. log ≡ log_from start.geometry (latest lists) version start.pack.head.log_start) → IsRightLog start.geometry log → HasNoLogFault image ckpt
   no_fault log said right =
-      none_stands image point
-      (subst (λ (e : Extent). IsRightLog e (chain image point)) (sym is.extent_is) (subst (λ (l : List Logged). IsRightLog start.geometry l) (is_chain log said) right))
+      none_stands image ckpt
+      (subst (λ (e : ImageGeometry). IsRightLog e (chain image ckpt)) (sym is.geom_is) (subst (λ (l : List Logged). IsRightLog start.geometry l) (is_chain log said) right))
 
-  pub has_fault : (fault : ScanFault) → IfSome held (λ lists. IsFault start.geometry (log_from start.geometry (latest lists) version start.pack.head.log_start) fault) → IsFault point.extent (chain image point) fault
+  pub has_fault : (fault : ScanFault) → IfSome held (λ lists. IsFault start.geometry (log_from start.geometry (latest lists) version start.pack.head.log_start) fault) → IsFault ckpt.geom (chain image ckpt) fault
   has_fault fault said = of_chain (λ e l. IsFault e l fault) said

@@ -8,7 +8,7 @@ use Rattle.f2_recover.specs.Faults.{IsRightFault}
 use Rattle.f2_image.specs.Chains.{Logged, chain}
 use Rattle.f2_overlay.specs.Rolling.{IsGround}
 use Rattle.f2_recover.specs.Told.{Tells}
-use Rattle.f2_recover.specs.Walking.{IsPointOf, IsBaseRead}
+use Rattle.f2_recover.specs.Walking.{IsCkptOf, IsBaseRead}
 use Rattle.f2_recover.specs.declared.walk.Walk.{Walk}
 use Rattle.f2_recover.specs.declared.faults.BadImage.TheVariants.{BadSuper, NoCheckpoint}
 use Rattle.f2_recover.specs.declared.faults.MountFault.{MountFault}
@@ -18,21 +18,21 @@ use Rattle.f2_start.specs.declared.reading.Start.{Start}
 use Rattle.f2_format.specs.Pack.{HeadFields}
 
 -- a condition of the checkpoint that an image has is one of the image
-pub stands : (image : Image) (point : Checkpoint) → IsCheckpoint image point → (fault : MountFault) → IsRightFault image point fault → IsStanding image fault
-stands image point is (Bad BadSuper) none = absurd none
-stands image point is (Bad NoCheckpoint) none = absurd none
-stands image point is (Bad bad) there = (point, is, there)
-stands image point is Read there = tt
-stands image point is Memory there = tt
+pub stands : (image : Image) (ckpt : Checkpoint) → IsCheckpoint image ckpt → (fault : MountFault) → IsRightFault image ckpt fault → IsStanding image fault
+stands image ckpt is (Bad BadSuper) none = absurd none
+stands image ckpt is (Bad NoCheckpoint) none = absurd none
+stands image ckpt is (Bad bad) there = (ckpt, is, there)
+stands image ckpt is Read there = tt
+stands image ckpt is Memory there = tt
 
 -- what a base is read by
-pub point_of : (start : Start) (point : Checkpoint) → IsStartOf start point → IsPointOf start.geometry start.pack.head.bitmap start.pack.summary point
-point_of start point is = record { extent_is = is.extent_is; bitmap_is = ap (λ (f : HeadFields). f.bitmap) is.head_is; summary_is = is.summary_is }
+pub ckpt_of : (start : Start) (ckpt : Checkpoint) → IsStartOf start ckpt → IsCkptOf start.geometry start.pack.head.bitmap start.pack.summary ckpt
+ckpt_of start ckpt is = record { geom_is = is.geom_is; bitmap_is = ap (λ (f : HeadFields). f.bitmap) is.head_is; summary_is = is.summary_is }
 
-pub version_of : (start : Start) (point : Checkpoint) → IsStartOf start point → start.pack.head.version ≡ point.head.version
-version_of start point is = sym (ap (λ (f : HeadFields). f.version) is.head_is)
+pub version_of : (start : Start) (ckpt : Checkpoint) → IsStartOf start ckpt → start.pack.head.version ≡ ckpt.head.version
+version_of start ckpt is = sym (ap (λ (f : HeadFields). f.version) is.head_is)
 
 -- what a log is rolled over
-pub ground_of : (held : Option Contents) (start : Start) (image : Image) (point : Checkpoint) (walk : Walk) (log : List Logged) → Tells held image → IsStartOf start point → IsBaseRead image point walk → log ≡ chain image point
-    → IsGround held start.geometry image point walk log
-ground_of held start image point walk log tells is base same = record { tells = tells; extent_is = is.extent_is; base = base; chain_is = same }
+pub ground_of : (held : Option Contents) (start : Start) (image : Image) (ckpt : Checkpoint) (walk : Walk) (log : List Logged) → Tells held image → IsStartOf start ckpt → IsBaseRead image ckpt walk → log ≡ chain image ckpt
+    → IsGround held start.geometry image ckpt walk log
+ground_of held start image ckpt walk log tells is base same = record { tells = tells; geom_is = is.geom_is; base = base; chain_is = same }

@@ -20,30 +20,30 @@ use Rattle.f2_scan.specs.Laws.{HasNoLogFault}
 use Rattle.f2_mount.specs.declared.recovering.Recovered.{Recovered}
 
 -- a base was read, its node log has none of its faults, and what the log brings is right
-pub record IsLogRight (image : Image) (point : Checkpoint) (walk : Walk) : Type 0 where
-  pub base : IsBaseRead image point walk
-  pub log : HasNoLogFault image point
-  pub nids : HasRightNids image point
-  pub apart : IsApart image point
-  pub marks : HasRightMarks image point
-  pub pages : HasRightPages image point
+pub record IsLogRight (image : Image) (ckpt : Checkpoint) (walk : Walk) : Type 0 where
+  pub base : IsBaseRead image ckpt walk
+  pub log : HasNoLogFault image ckpt
+  pub nids : HasRightNids image ckpt
+  pub apart : IsApart image ckpt
+  pub marks : HasRightMarks image ckpt
+  pub pages : HasRightPages image ckpt
 
 -- the same, and these are the files that were marked
-pub record IsRolledUp (image : Image) (point : Checkpoint) (walk : Walk) (files : map.FinMap nat_cmp Roll) : Type 0 where
-  pub right : IsLogRight image point walk
-  pub rolls : AreRolls image point walk files
+pub record IsRolledUp (image : Image) (ckpt : Checkpoint) (walk : Walk) (files : map.FinMap nat_cmp Roll) : Type 0 where
+  pub right : IsLogRight image ckpt walk
+  pub rolls : AreRolls image ckpt walk files
 
 -- an image means a base and marks, and their tree was found in it
-pub record IsTreeOf (image : Image) (point : Checkpoint) (tree : Found) (base : Rows) (marks : List Mark) : Type 0 where
-  pub means : MeansAt image point base marks
+pub record IsTreeOf (image : Image) (ckpt : Checkpoint) (tree : Found) (base : Rows) (marks : List Mark) : Type 0 where
+  pub means : MeansAt image ckpt base marks
   pub found : IsFound image (rolled base marks) tree
 
 -- an image stands for a tree, which was found in it: its base with its marks rolled forward, of a version before the last one
 pub record IsRecovered (image : Image) (recovered : Recovered) : Type 0 where
-  pub point : Checkpoint
+  pub ckpt : Checkpoint
   pub base : Rows
   pub marks : List Mark
-  pub is : IsTreeOf image point recovered.tree base marks
+  pub is : IsTreeOf image ckpt recovered.tree base marks
   pub counted : recovered.marks ≡ length marks
-  pub version : recovered.version ≡ point.head.version
-  pub early : point.head.version ≤ MOST_VERSION
+  pub version : recovered.version ≡ ckpt.head.version
+  pub early : ckpt.head.version ≤ MOST_VERSION

@@ -23,7 +23,7 @@ use std::alloc::Global;
 
 /// A fault of the node log as one of the image.
 fn fault_of(fault: ScanFault) -> MountFault
-    ensures right { (image : Image) (point : Checkpoint) → IsFault point.extent (chain image point) fault → IsRightFault image point result }
+    ensures right { (image : Image) (ckpt : Checkpoint) → IsFault ckpt.geom (chain image ckpt) fault → IsRightFault image ckpt result }
     ensures read { result ≡ MountFault.Read → fault ≡ ScanFault.Read }
 {
     match fault {
@@ -43,10 +43,10 @@ pub(crate) fn read_log<D: Disk>(
 ) -> Result<Chain, MountFault>
     requires device { start.now.geometry.blocks ≤ (D.meter disk.old).blocks }
     requires log { IsTrue (is_in_node start.now.geometry start.now.pack.head.log_start) }
-    ensures chain { IfOk result (λ log. (image : Image) (point : Checkpoint) → Tells (D.contents disk.old) image → IsStartOf start.now point → log ≡ chain image point) }
-    ensures sound { IfOk result (λ log. (image : Image) (point : Checkpoint) → Tells (D.contents disk.old) image → IsStartOf start.now point → HasNoLogFault image point) }
+    ensures chain { IfOk result (λ log. (image : Image) (ckpt : Checkpoint) → Tells (D.contents disk.old) image → IsStartOf start.now ckpt → log ≡ chain image ckpt) }
+    ensures sound { IfOk result (λ log. (image : Image) (ckpt : Checkpoint) → Tells (D.contents disk.old) image → IsStartOf start.now ckpt → HasNoLogFault image ckpt) }
     ensures few { IfOk result (λ log. length log < 2 ^ 31) }
-    ensures fault { IfErr result (λ fault. (image : Image) (point : Checkpoint) → Tells (D.contents disk.old) image → IsStartOf start.now point → IsRightFault image point fault) }
+    ensures fault { IfErr result (λ fault. (image : Image) (ckpt : Checkpoint) → Tells (D.contents disk.old) image → IsStartOf start.now ckpt → IsRightFault image ckpt fault) }
     ensures reads { OnlyReads (D.contents disk.old) (D.meter disk.old) (D.contents disk.new) (D.meter disk.new) }
     ensures cause { result ≡ Err MountFault.Read → HasFailed (D.meter disk.old) (D.meter disk.new) }
 {
@@ -84,8 +84,8 @@ pub(crate) fn roll_log<D: Disk>(
 ) -> Result<Rolls, MountFault>
     requires device { g.now.blocks ≤ (D.meter disk.old).blocks }
     requires few { length log.now < 2 ^ 31 }
-    ensures rolled { IfOk result (λ rolls. (image : Image) (point : Checkpoint) → IsGround (D.contents disk.old) g.now image point walk.now log.now → HasNoLogFault image point → IsRolledUp image point walk.now rolls) }
-    ensures fault { IfErr result (λ fault. (image : Image) (point : Checkpoint) → IsGround (D.contents disk.old) g.now image point walk.now log.now → HasNoLogFault image point → IsRightFault image point fault) }
+    ensures rolled { IfOk result (λ rolls. (image : Image) (ckpt : Checkpoint) → IsGround (D.contents disk.old) g.now image ckpt walk.now log.now → HasNoLogFault image ckpt → IsRolledUp image ckpt walk.now rolls) }
+    ensures fault { IfErr result (λ fault. (image : Image) (ckpt : Checkpoint) → IsGround (D.contents disk.old) g.now image ckpt walk.now log.now → HasNoLogFault image ckpt → IsRightFault image ckpt fault) }
     ensures reads { OnlyReads (D.contents disk.old) (D.meter disk.old) (D.contents disk.new) (D.meter disk.new) }
     ensures cause { result ≡ Err MountFault.Read → HasFailed (D.meter disk.old) (D.meter disk.new) }
 {

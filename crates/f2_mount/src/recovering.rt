@@ -57,9 +57,9 @@ fn recover_from<D: Disk>(
 ) -> Result<Recovered, MountFault>
     requires device { start.now.geometry.blocks ≤ (D.meter disk.old).blocks }
     requires log { IsTrue (is_in_node start.now.geometry start.now.pack.head.log_start) }
-    ensures recovered { IfOk result (λ recovered. (image : Image) (point : Checkpoint) → Tells (D.contents disk.old) image → IsCheckpoint image point → IsStartOf start.now point → IsRecovered image recovered) }
+    ensures recovered { IfOk result (λ recovered. (image : Image) (ckpt : Checkpoint) → Tells (D.contents disk.old) image → IsCheckpoint image ckpt → IsStartOf start.now ckpt → IsRecovered image recovered) }
     ensures fits { IfOk result (λ recovered. IsWithinBlocks start.now.geometry.blocks recovered.tree) }
-    ensures fault { IfErr result (λ fault. (image : Image) (point : Checkpoint) → Tells (D.contents disk.old) image → IsCheckpoint image point → IsStartOf start.now point → IsRightFault image point fault) }
+    ensures fault { IfErr result (λ fault. (image : Image) (ckpt : Checkpoint) → Tells (D.contents disk.old) image → IsCheckpoint image ckpt → IsStartOf start.now ckpt → IsRightFault image ckpt fault) }
     ensures reads { OnlyReads (D.contents disk.old) (D.meter disk.old) (D.contents disk.new) (D.meter disk.new) }
     ensures cause { result ≡ Err MountFault.Read → HasFailed (D.meter disk.old) (D.meter disk.new) }
 {

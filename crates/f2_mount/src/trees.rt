@@ -22,10 +22,10 @@ pub(crate) fn find_tree(
     walk: &Walk,
     rolls: &Rolls,
 ) -> Result<Found, MountFault>
-    ensures tree { IfOk result (λ tree. (image : Image) (point : Checkpoint) → IsCheckpoint image point → point.extent ≡ g.now → IsRolledUp image point walk.now rolls.now
-        → (base : Rows) × ((marks : List Mark) × IsTreeOf image point tree base marks)) }
+    ensures tree { IfOk result (λ tree. (image : Image) (ckpt : Checkpoint) → IsCheckpoint image ckpt → ckpt.geom ≡ g.now → IsRolledUp image ckpt walk.now rolls.now
+        → (base : Rows) × ((marks : List Mark) × IsTreeOf image ckpt tree base marks)) }
     ensures within { IfOk result (λ tree. IsWithinBlocks g.now.blocks tree) }
-    ensures fault { IfErr result (λ fault. (image : Image) (point : Checkpoint) → IsCheckpoint image point → point.extent ≡ g.now → IsRolledUp image point walk.now rolls.now → IsRightFault image point fault) }
+    ensures fault { IfErr result (λ fault. (image : Image) (ckpt : Checkpoint) → IsCheckpoint image ckpt → ckpt.geom ≡ g.now → IsRolledUp image ckpt walk.now rolls.now → IsRightFault image ckpt fault) }
     ensures no_read { result ≢ Err MountFault.Read }
 {
     let tree = put_together(alloc, g, walk, rolls)?;

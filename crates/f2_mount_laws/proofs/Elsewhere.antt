@@ -30,30 +30,30 @@ in_addresses (one ∷ rest) (suc place) small = let later = in_addresses rest pl
 
 module _ (lists : Contents) (layout : Layout) (state : State) (places : Places) (unwritten : Unwritten) (at : ℕ) (goes : GoesOn lists layout state places unwritten) (free : IsFree layout at) where
   abbrev Is : ℕ → ℕ → NodeAt → Type 0
-  Is ino offset n = NodeIs layout.base.image layout.base.point state.base state.marks state.live places unwritten goes.image.base.means goes.taken ino offset n
+  Is ino offset n = NodeIs layout.base.image layout.base.ckpt state.base state.marks state.live places unwritten goes.image.base.means goes.taken ino offset n
 
   not_first : at ≢ 0
-  not_first none = free.base (tells (subst (bases.TellsCheckpoint layout.base.point) (sym none) bases.first_superblock))
+  not_first none = free.base (tells (subst (bases.TellsCheckpoint layout.base.ckpt) (sym none) bases.first_superblock))
 
   node_off : (ino offset : ℕ) (n : NodeAt) → Is ino offset n → n.at ≢ at
   node_off ino offset n (in_base there) same =
-      free.base (depends (depending.node ino offset n.nid (is_node layout.base.image layout.base.point state.base goes.image.base.means.is_base goes.taken.old goes.taken.stands ino offset n there)
-      (sym (node_at layout.base.image layout.base.point state.base goes.image.base.means.is_base goes.taken.old goes.taken.stands ino offset n there ∙ same))))
+      free.base (depends (depending.node ino offset n.nid (is_node layout.base.image layout.base.ckpt state.base goes.image.base.means.is_base goes.taken.old goes.taken.stands ino offset n there)
+      (sym (node_at layout.base.image layout.base.ckpt state.base goes.image.base.means.is_base goes.taken.old goes.taken.stands ino offset n there ∙ same))))
   node_off ino offset n (in_log its) same =
-      free.base (logged (subst (Contains (map_list (λ one. one.at) (chain layout.base.image layout.base.point))) (sym its.at_is ∙ same) (in_addresses (chain layout.base.image layout.base.point) its.place its.within)))
+      free.base (logged (subst (Contains (map_list (λ one. one.at) (chain layout.base.image layout.base.ckpt))) (sym its.at_is ∙ same) (in_addresses (chain layout.base.image layout.base.ckpt) its.place its.within)))
   node_off ino offset n (new other nowhere own) same = not_first (sym same ∙ nowhere)
 
   abbrev PageOf : ℕ → ℕ → ℕ → Type 0
-  PageOf ino page other = PageIs layout.base.image layout.base.point state.base state.marks state.live places unwritten goes.image.base.means goes.taken ino page other
+  PageOf ino page other = PageIs layout.base.image layout.base.ckpt state.base state.marks state.live places unwritten goes.image.base.means goes.taken ino page other
 
   page_off : (ino page other : ℕ) → PageOf ino page other → other ≢ at
-  page_off ino page other (read its) same = free.base (depends (depending.page ino page (subst (IsPage layout.base.image layout.base.point ino page) same its)))
+  page_off ino page other (read its) same = free.base (depends (depending.page ino page (subst (IsPage layout.base.image layout.base.ckpt ino page) same its)))
   page_off ino page other (pages.new nowhere) same = not_first (sym same ∙ nowhere)
 
   elsewhere : IsElsewhere places at
   elsewhere = record {
-    nodes = λ ino offset n there. node_off ino offset n (node_is layout.base.image layout.base.point state.base state.marks state.live places unwritten goes.image.base.means goes.taken ino offset n there);
-    pages = λ ino page other there. page_off ino page other (page_is layout.base.image layout.base.point state.base state.marks state.live places unwritten goes.image.base.means goes.taken ino page other there);
+    nodes = λ ino offset n there. node_off ino offset n (node_is layout.base.image layout.base.ckpt state.base state.marks state.live places unwritten goes.image.base.means goes.taken ino offset n there);
+    pages = λ ino page other there. page_off ino page other (page_is layout.base.image layout.base.ckpt state.base state.marks state.live places unwritten goes.image.base.means goes.taken ino page other there);
   }
 
 pub are_elsewhere : FreeAddressesAreElsewhere

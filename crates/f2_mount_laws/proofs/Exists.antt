@@ -42,71 +42,71 @@ use Rattle.f2_mount_laws.proofs.WayKinds.{WayKind, names_some, is_direct, way_ki
 no_ino : (ino : ℕ) → set.contains {R = nat_cmp} set.empty ino ≡ false
 no_ino ino = set.contains-empty nat_cmp ino
 
-module _ (image : Image) (point : Checkpoint) (base : Rows) (marks : List Mark) (means : MeansAt image point base marks) (relaid : Relaid) (may : MayBeRelaid base (rolled base marks) relaid) (room : HasRoomFor image point (rolled base marks) relaid) where
+module _ (image : Image) (ckpt : Checkpoint) (base : Rows) (marks : List Mark) (means : MeansAt image ckpt base marks) (relaid : Relaid) (may : MayBeRelaid base (rolled base marks) relaid) (room : HasRoomFor image ckpt (rolled base marks) relaid) where
   abbrev no_anew : Inos
   no_anew = relaid.directories
 
   abbrev Old : Places
-  Old = old image point base marks means relaid may room
+  Old = old image ckpt base marks means relaid may room
 
   abbrev Its : Places
-  Its = its image point base marks means relaid may room
+  Its = its image ckpt base marks means relaid may room
 
   abbrev Tree : Rows
-  Tree = tree image point base marks means relaid may room
+  Tree = tree image ckpt base marks means relaid may room
 
-  abbrev its_from : (ino : ℕ) → From image point base marks means relaid may room ino
-  its_from ino = from image point base marks means relaid may room ino
+  abbrev its_from : (ino : ℕ) → From image ckpt base marks means relaid may room ino
+  its_from ino = from image ckpt base marks means relaid may room ino
 
   -- a nid is of the base or of the log, or a new one
   data NidIs (ino offset : ℕ) (n : NodeAt) : Type 0 where
-    known : ¬ (IsNewNid image point Old n.nid) → NidIs ino offset n
-    fresh : map.get (new_nids image point base marks means relaid may room) (ino, offset) ≡ Some n.nid → NidIs ino offset n
+    known : ¬ (IsNewNid image ckpt Old n.nid) → NidIs ino offset n
+    fresh : map.get (new_nids image ckpt base marks means relaid may room) (ino, offset) ≡ Some n.nid → NidIs ino offset n
 
   -- each node is taken over as it should
   abbrev Marked : (ino offset place : ℕ) → NodeAt → Type 0
-  Marked ino offset place n = IsMarkedNode image point Old place ino offset n × ¬ (IsNewNid image point Old n.nid)
+  Marked ino offset place n = IsMarkedNode image ckpt Old place ino offset n × ¬ (IsNewNid image ckpt Old n.nid)
 
   abbrev Taken : ℕ → ℕ → NodeAt → Type 0
-  Taken ino offset n = IsTakenNode image point Old no_anew ino offset n × NidIs ino offset n
+  Taken ino offset n = IsTakenNode image ckpt Old no_anew ino offset n × NidIs ino offset n
 
-  known_in_base : (ino offset : ℕ) (n : NodeAt) → map.get Old.nodes (ino, offset) ≡ Some n → ¬ (IsNewNid image point Old n.nid)
+  known_in_base : (ino offset : ℕ) (n : NodeAt) → map.get Old.nodes (ino, offset) ≡ Some n → ¬ (IsNewNid image ckpt Old n.nid)
   known_in_base ino offset n there own = own.no_base ino offset n there refl
 
-  direct_by : (ino offset place : ℕ) (n : NodeAt) → IsLastMark image point ino place → IsDirect offset → (b : LastBlock (chain image point) place ino offset)
-      → logged_node image point base marks means relaid may room ino offset place b ≡ Some n → Marked ino offset place n
+  direct_by : (ino offset place : ℕ) (n : NodeAt) → IsLastMark image ckpt ino place → IsDirect offset → (b : LastBlock (chain image ckpt) place ino offset)
+      → logged_node image ckpt base marks means relaid may room ino offset place b ≡ Some n → Marked ino offset place n
   direct_by ino offset place n last direct (found at is) e =
-      let same : record { nid = footer_nid (block_in (chain image point) at); at = address_of (chain image point) at } ≡ n = same_Some (record { nid = footer_nid (block_in (chain image point) at); at = address_of (chain image point) at }) n e in
+      let same : record { nid = footer_nid (block_in (chain image ckpt) at); at = address_of (chain image ckpt) at } ≡ n = same_Some (record { nid = footer_nid (block_in (chain image ckpt) at); at = address_of (chain image ckpt) at }) n e in
       let before = is.before in
       let limit = last.marked.within in
-      let nid : n.nid ≡ footer_nid (block_in (chain image point) at) = ap (λ (m : NodeAt). m.nid) (sym same) in
+      let nid : n.nid ≡ footer_nid (block_in (chain image ckpt) at) = ap (λ (m : NodeAt). m.nid) (sym same) in
       (taken.logged at direct is nid (ap (λ (m : NodeAt). m.at) (sym same)), λ own. own.no_log at (omega (arith, before, limit)) (sym nid))
   direct_by ino offset place n last direct (none is) e = (taken.based direct is e, known_in_base ino offset n e)
 
-  below_by : (ino offset place page : ℕ) (n : NodeAt) → IsLastMark image point ino place → offset ≢ 0 → WayKind page offset → (b : Bool) → is_some (offset_below offset 0) ≡ b
-      → below_node image point base marks means relaid may room ino offset place b ≡ Some n → Marked ino offset place n
-  below_by ino offset place page n last other (is_direct direct) true e there = absurd (no_direct image point base marks means relaid may room offset e (direct_from_page page offset direct))
-  below_by ino offset place page n last other (is_direct direct) false e there = direct_by ino offset place n last (direct_from_page page offset direct) (last_block (chain image point) place ino offset) there
+  below_by : (ino offset place page : ℕ) (n : NodeAt) → IsLastMark image ckpt ino place → offset ≢ 0 → WayKind page offset → (b : Bool) → is_some (offset_below offset 0) ≡ b
+      → below_node image ckpt base marks means relaid may room ino offset place b ≡ Some n → Marked ino offset place n
+  below_by ino offset place page n last other (is_direct direct) true e there = absurd (no_direct image ckpt base marks means relaid may room offset e (direct_from_page page offset direct))
+  below_by ino offset place page n last other (is_direct direct) false e there = direct_by ino offset place n last (direct_from_page page offset direct) (last_block (chain image ckpt) place ino offset) there
   below_by ino offset place page n last other (names_some upper) true e there =
-      (taken.indirect other (no_direct image point base marks means relaid may room offset upper) (taken.stays there), known_in_base ino offset n there)
+      (taken.indirect other (no_direct image ckpt base marks means relaid may room offset upper) (taken.stays there), known_in_base ino offset n there)
   below_by ino offset place page n last other (names_some upper) false e there = absurd (true≢false (sym upper ∙ e))
 
   abbrev marked_inode : ℕ → ℕ → NodeAt
-  marked_inode ino place = record { nid = ino; at = address_of (chain image point) place }
+  marked_inode ino place = record { nid = ino; at = address_of (chain image ckpt) place }
 
-  marked_by : (ino offset place : ℕ) (n : NodeAt) → IsLastMark image point ino place → IsNeeded Tree Its ino offset → (b : Bool) → (offset == 0) ≡ b
-      → cond b (Some (marked_inode ino place)) (below_node image point base marks means relaid may room ino offset place (is_some (offset_below offset 0))) ≡ Some n → Marked ino offset place n
+  marked_by : (ino offset place : ℕ) (n : NodeAt) → IsLastMark image ckpt ino place → IsNeeded Tree Its ino offset → (b : Bool) → (offset == 0) ≡ b
+      → cond b (Some (marked_inode ino place)) (below_node image ckpt base marks means relaid may room ino offset place (is_some (offset_below offset 0))) ≡ Some n → Marked ino offset place n
   marked_by ino offset place n last need true e there =
       let same = same_Some (marked_inode ino place) n there in
       let nid : n.nid ≡ ino = ap (λ (m : NodeAt). m.nid) (sym same) in (
         taken.inode (same_of offset 0 e) nid (ap (λ (m : NodeAt). m.at) (sym same)),
-        λ own. own.no_log place last.marked.within (mark_nid image point means.sound ino place last ∙ sym nid),
+        λ own. own.no_log place last.marked.within (mark_nid image ckpt means.sound ino place last ∙ sym nid),
       )
   marked_by ino offset place n last (taken.inode first row) false e there = absurd (differ_of offset 0 e first)
   marked_by ino offset place n last (taken.on_way page has way) false e there =
       below_by ino offset place page n last (differ_of offset 0 e) (way_kind page offset way) (is_some (offset_below offset 0)) refl there
 
-  taken_by : (ino offset : ℕ) (n : NodeAt) → IsNeeded Tree Its ino offset → (o : From image point base marks means relaid may room ino) → node_by image point base marks means relaid may room ino o offset ≡ Some n → Taken ino offset n
+  taken_by : (ino offset : ℕ) (n : NodeAt) → IsNeeded Tree Its ino offset → (o : From image ckpt base marks means relaid may room ino) → node_by image ckpt base marks means relaid may room ino o offset ≡ Some n → Taken ino offset n
   taken_by ino offset n need (is_laid anew) there = (taken.laid anew (taken.stays there), known (known_in_base ino offset n there))
   taken_by ino offset n need (is_base out unmarked same) there = (taken.kept unmarked out there, known (known_in_base ino offset n there))
   taken_by ino offset n need (is_mark out place mark last at own its_row) there =
@@ -114,54 +114,54 @@ module _ (image : Image) (point : Checkpoint) (base : Rows) (marks : List Mark) 
       (taken.marked place last is.0, known is.1)
 
   -- a new one
-  new_by : (ino offset nid : ℕ) (n : NodeAt) → IsMissing image point base marks means relaid may room ino offset → map.get (new_nids image point base marks means relaid may room) (ino, offset) ≡ Some nid → record { nid = nid; at = 0 } ≡ n → Taken ino offset n
+  new_by : (ino offset nid : ℕ) (n : NodeAt) → IsMissing image ckpt base marks means relaid may room ino offset → map.get (new_nids image ckpt base marks means relaid may room) (ino, offset) ≡ Some nid → record { nid = nid; at = 0 } ≡ n → Taken ino offset n
   new_by ino offset nid n lacks there same =
       let nids : nid ≡ n.nid = ap (λ (m : NodeAt). m.nid) same in
       let nowhere : n.at ≡ 0 = ap (λ (m : NodeAt). m.at) (sym same) in
-      let own : IsNewNid image point Old n.nid = subst (IsNewNid image point Old) nids (nid_is_new image point base marks means relaid may room ino offset nid there) in
+      let own : IsNewNid image ckpt Old n.nid = subst (IsNewNid image ckpt Old) nids (nid_is_new image ckpt base marks means relaid may room ino offset nid there) in
       (lacks.may_come n (taken.comes lacks.absent nowhere own), fresh (there ∙ ap Some nids))
 
   node_taken : (ino offset : ℕ) (n : NodeAt) → map.get Its.nodes (ino, offset) ≡ Some n → Taken ino offset n
   node_taken ino offset n there =
-      by_first (first_for image point base marks means relaid may room (ino, offset)) refl (map.get (new_nids image point base marks means relaid may room) (ino, offset)) refl (node_chosen image point base marks means relaid may room ino offset n there)
+      by_first (first_for image ckpt base marks means relaid may room (ino, offset)) refl (map.get (new_nids image ckpt base marks means relaid may room) (ino, offset)) refl (node_chosen image ckpt base marks means relaid may room ino offset n there)
     where
       need : IsNeeded Tree Its ino offset
-      need = needed image point base marks means relaid may room ino offset (ap is_some there)
+      need = needed image ckpt base marks means relaid may room ino offset (ap is_some there)
 
-      by_first : (o : Option NodeAt) → first_for image point base marks means relaid may room (ino, offset) ≡ o → (m : Option ℕ) → map.get (new_nids image point base marks means relaid may room) (ino, offset) ≡ m
-          → or_new image point base marks means relaid may room o m ≡ Some n → Taken ino offset n
+      by_first : (o : Option NodeAt) → first_for image ckpt base marks means relaid may room (ino, offset) ≡ o → (m : Option ℕ) → map.get (new_nids image ckpt base marks means relaid may room) (ino, offset) ≡ m
+          → or_new image ckpt base marks means relaid may room o m ≡ Some n → Taken ino offset n
       by_first (Some k) e m f is = taken_by ino offset n need (its_from ino) (e ∙ is)
       by_first None e None f is = absurd (none-some n is)
-      by_first None e (Some nid) f is = new_by ino offset nid n (missing_is image point base marks means relaid may room ino offset need e) f (same_Some (record { nid = nid; at = 0 }) n is)
+      by_first None e (Some nid) f is = new_by ino offset nid n (missing_is image ckpt base marks means relaid may room ino offset need e) f (same_Some (record { nid = nid; at = 0 }) n is)
 
-  apart_by : (one other : ℕ × ℕ) (a b : NodeAt) → IsNewNid image point Old a.nid → a.nid ≡ b.nid → NidIs one.0 one.1 a → NidIs other.0 other.1 b → one ≡ other
+  apart_by : (one other : ℕ × ℕ) (a b : NodeAt) → IsNewNid image ckpt Old a.nid → a.nid ≡ b.nid → NidIs one.0 one.1 a → NidIs other.0 other.1 b → one ≡ other
   apart_by one other a b own same (known never) q = absurd (never own)
-  apart_by one other a b own same p (known never) = absurd (never (subst (IsNewNid image point Old) same own))
-  apart_by one other a b own same (fresh p) (fresh q) = nids_differ image point base marks means relaid may room one other a.nid b.nid p q same
+  apart_by one other a b own same p (known never) = absurd (never (subst (IsNewNid image ckpt Old) same own))
+  apart_by one other a b own same (fresh p) (fresh q) = nids_differ image ckpt base marks means relaid may room one other a.nid b.nid p q same
 
   -- each page is one of the tree
-  page_of_tree : (ino page at : ℕ) → map.get Its.pages (ino, page) ≡ Some at → IsTreePage image point relaid ino page at
-  page_of_tree ino page at there = tree_page image point base marks means relaid may room ino page at there
+  page_of_tree : (ino page at : ℕ) → map.get Its.pages (ino, page) ≡ Some at → IsTreePage image ckpt relaid ino page at
+  page_of_tree ino page at there = tree_page image ckpt base marks means relaid may room ino page at there
 
   -- a third of each zone holds them
-  tree_nodes : (at : ℕ × ℕ) → IsIn at (map.keys Its.nodes) → IsTreeNode image point (rolled base marks) relaid at
-  tree_nodes at listed = tree_node image point base marks means relaid may room at (needed image point base marks means relaid may room at.0 at.1 (key_got Its.nodes at listed))
+  tree_nodes : (at : ℕ × ℕ) → IsIn at (map.keys Its.nodes) → IsTreeNode image ckpt (rolled base marks) relaid at
+  tree_nodes at listed = tree_node image ckpt base marks means relaid may room at (needed image ckpt base marks means relaid may room at.0 at.1 (key_got Its.nodes at listed))
 
-  few_nodes : map.len Its.nodes ≤ node_third point.extent
-  few_nodes = at_most (map.len Its.nodes) (node_third point.extent) (λ more.
+  few_nodes : map.len Its.nodes ≤ node_third ckpt.geom
+  few_nodes = at_most (map.len Its.nodes) (node_third ckpt.geom) (λ more.
       let long = length-keys Its.nodes in
-      room.nodes (record { some = map.keys Its.nodes; differ = differing_keys Its.nodes; all = each_in (IsTreeNode image point (rolled base marks) relaid) (map.keys Its.nodes) tree_nodes; more = omega (arith, long, more) }))
+      room.nodes (record { some = map.keys Its.nodes; differ = differing_keys Its.nodes; all = each_in (IsTreeNode image ckpt (rolled base marks) relaid) (map.keys Its.nodes) tree_nodes; more = omega (arith, long, more) }))
 
-  tree_pages : (at : ℕ × ℕ) → IsIn at (map.keys Its.pages) → IsSomeTreePage image point relaid at
+  tree_pages : (at : ℕ × ℕ) → IsIn at (map.keys Its.pages) → IsSomeTreePage image ckpt relaid at
   tree_pages at listed = let there = the_one (map.get Its.pages at) (key_got Its.pages at listed) in (there.0, page_of_tree at.0 at.1 there.0 there.1)
 
-  few_pages : map.len Its.pages ≤ data_third point.extent
-  few_pages = at_most (map.len Its.pages) (data_third point.extent) (λ more.
+  few_pages : map.len Its.pages ≤ data_third ckpt.geom
+  few_pages = at_most (map.len Its.pages) (data_third ckpt.geom) (λ more.
       let long = length-keys Its.pages in
-      room.pages (record { some = map.keys Its.pages; differ = differing_keys Its.pages; all = each_in (IsSomeTreePage image point relaid) (map.keys Its.pages) tree_pages; more = omega (arith, long, more) }))
+      room.pages (record { some = map.keys Its.pages; differ = differing_keys Its.pages; all = each_in (IsSomeTreePage image ckpt relaid) (map.keys Its.pages) tree_pages; more = omega (arith, long, more) }))
 
   -- what is to be written
-  abbrev marked_test : (ino : ℕ) → From image point base marks means relaid may room ino → Bool
+  abbrev marked_test : (ino : ℕ) → From image ckpt base marks means relaid may room ino → Bool
   marked_test ino (is_laid anew) = false
   marked_test ino (is_base out unmarked same) = false
   marked_test ino (is_mark out place mark last at own there) = true
@@ -188,7 +188,7 @@ module _ (image : Image) (point : Checkpoint) (base : Rows) (marks : List Mark) 
   its_unwritten = record { nodes = written; pages = pages_written }
 
   abbrev ToWrite : ℕ → ℕ → Type 0
-  ToWrite ino offset = IsToWrite image point Old no_anew Its ino offset
+  ToWrite ino offset = IsToWrite image ckpt Old no_anew Its ino offset
 
   either_left : (a b : Bool) → a ≡ true → (a || b) ≡ true
   either_left true b e = refl
@@ -211,9 +211,9 @@ module _ (image : Image) (point : Checkpoint) (base : Rows) (marks : List Mark) 
       by_kind (names_some some) = some
       by_kind (is_direct direct) = absurd (apart (direct_from_page page offset direct))
 
-  mark_tested : (ino place : ℕ) (o : From image point base marks means relaid may room ino) → IsLastMark image point ino place → marked_test ino o ≡ true
-  mark_tested ino place (is_laid anew) last = absurd (not_laid image point base marks means relaid may room ino place last anew)
-  mark_tested ino place (is_base out unmarked same) last = absurd (unmarked place (block_in (chain image point) place) last.marked last.own)
+  mark_tested : (ino place : ℕ) (o : From image ckpt base marks means relaid may room ino) → IsLastMark image ckpt ino place → marked_test ino o ≡ true
+  mark_tested ino place (is_laid anew) last = absurd (not_laid image ckpt base marks means relaid may room ino place last anew)
+  mark_tested ino place (is_base out unmarked same) last = absurd (unmarked place (block_in (chain image ckpt) place) last.marked last.own)
   mark_tested ino place (is_mark out other mark one at own there) last = refl
 
   thinned_tested : (ino : ℕ) → IsThinned Old Its ino → thinned_test ino ≡ true
@@ -236,7 +236,7 @@ module _ (image : Image) (point : Checkpoint) (base : Rows) (marks : List Mark) 
   left_nodes : (ino offset : ℕ) (n : NodeAt) → map.get Its.nodes (ino, offset) ≡ Some n → ToWrite ino offset → set.contains written (ino, offset) ≡ true
   unfolding written
   left_nodes ino offset n there own =
-      passes to_write (map.keys Its.nodes) (ino, offset) (key_in Its.nodes (ino, offset) n there) (left_by ino offset (needed image point base marks means relaid may room ino offset (ap is_some there)) own)
+      passes to_write (map.keys Its.nodes) (ino, offset) (key_in Its.nodes (ino, offset) n there) (left_by ino offset (needed image ckpt base marks means relaid may room ino offset (ap is_some there)) own)
 
   gone_of : (o : Option NodeAt) → is_none o ≡ true → o ≡ None
   gone_of None e = refl
@@ -253,10 +253,10 @@ module _ (image : Image) (point : Checkpoint) (base : Rows) (marks : List Mark) 
         gone = ap (λ i. map.get Its.nodes (i, key.0.1)) (sym same) ∙ gone_of (map.get Its.nodes key.0) parts.1;
       }
 
-  mark_of : (ino offset : ℕ) (o : From image point base marks means relaid may room ino) → is_some (offset_below offset 0) ≡ true → marked_test ino o ≡ true → ToWrite ino offset
+  mark_of : (ino offset : ℕ) (o : From image ckpt base marks means relaid may room ino) → is_some (offset_below offset 0) ≡ true → marked_test ino o ≡ true → ToWrite ino offset
   mark_of ino offset (is_laid anew) some e = taken.laid anew
   mark_of ino offset (is_base out unmarked same) some e = absurd (true≢false (sym e))
-  mark_of ino offset (is_mark out place mark last at own there) some e = taken.marked place last (no_direct image point base marks means relaid may room offset some)
+  mark_of ino offset (is_mark out place mark last at own there) some e = taken.marked place last (no_direct image ckpt base marks means relaid may room offset some)
 
   other_by : (ino offset : ℕ) → other_test ino offset ≡ true → ToWrite ino offset
   other_by ino offset e = by_case (either_of (marked_test ino (its_from ino)) (thinned_test ino) parts.1)
@@ -266,7 +266,7 @@ module _ (image : Image) (point : Checkpoint) (base : Rows) (marks : List Mark) 
 
       by_case : (marked_test ino (its_from ino) ≡ true) ⊎ (thinned_test ino ≡ true) → ToWrite ino offset
       by_case (inl is) = mark_of ino offset (its_from ino) parts.0 is
-      by_case (inr is) = taken.thinned (thinned_of ino is) (no_direct image point base marks means relaid may room offset parts.0)
+      by_case (inr is) = taken.thinned (thinned_of ino is) (no_direct image ckpt base marks means relaid may room offset parts.0)
 
   only_case : (ino offset : ℕ) → (set.contains relaid.directories ino ≡ true) ⊎ (other_test ino offset ≡ true) → ToWrite ino offset
   only_case ino offset (inl anew) = taken.laid anew
@@ -290,21 +290,21 @@ module _ (image : Image) (point : Checkpoint) (base : Rows) (marks : List Mark) 
   only_pages ino page has = let is = passed page_left (map.keys Its.pages) (ino, page) has in (key_got Its.pages (ino, page) is.0, is.1)
 
   -- a page's row
-  rows_by : (ino page at : ℕ) (o : From image point base marks means relaid may room ino) → page_by image point base marks means relaid may room ino o page ≡ Some at → IsSome (map.get Tree ino) × (page < page_limit)
-  rows_by ino page at (is_laid anew) is = (laid_row image point base marks means relaid may room ino anew, (may.pages ino page at is).1)
+  rows_by : (ino page at : ℕ) (o : From image ckpt base marks means relaid may room ino) → page_by image ckpt base marks means relaid may room ino o page ≡ Some at → IsSome (map.get Tree ino) × (page < page_limit)
+  rows_by ino page at (is_laid anew) is = (laid_row image ckpt base marks means relaid may room ino anew, (may.pages ino page at is).1)
   rows_by ino page at (is_base out unmarked same) is =
-      let placed = (old_stands image point base marks means relaid may room).laid.pages ino page at is in
-      (tree_row image point base marks means relaid may room ino placed.row, placed.within)
-  rows_by ino page at (is_mark out place mark last is_marked own there) is = (ap is_some there, (within_limit image point base marks means relaid may room place page at is).0)
+      let placed = (old_stands image ckpt base marks means relaid may room).laid.pages ino page at is in
+      (tree_row image ckpt base marks means relaid may room ino placed.row, placed.within)
+  rows_by ino page at (is_mark out place mark last is_marked own there) is = (ap is_some there, (within_limit image ckpt base marks means relaid may room place page at is).0)
 
   -- a directory that is laid out anew has the names that it is given
   module _ (ino : ℕ) (anew : set.contains relaid.directories ino ≡ true) where
     pages_same : (page : ℕ) → map.get Its.pages (ino, page) ≡ map.get relaid.pages (ino, page)
-    pages_same page = laid_pages image point base marks means relaid may room ino page anew
+    pages_same page = laid_pages image ckpt base marks means relaid may room ino page anew
 
     dentries_same : (page : ℕ) → dentries_at Its ino page ≡ dentries_at (places_of relaid) ino page
     dentries_same page =
-        ap (λ o. unwrap_or o []) (dentries_are image point base marks means relaid may room (ino, page) ∙ ap (λ b. cond b (map.get relaid.dentries (ino, page)) (map.get Old.dentries (ino, page))) anew)
+        ap (λ o. unwrap_or o []) (dentries_are image ckpt base marks means relaid may room (ino, page) ∙ ap (λ b. cond b (map.get relaid.dentries (ino, page)) (map.get Old.dentries (ino, page))) anew)
 
     given_at : (page place : ℕ) (dentry : Dentry) → IsDentryAt Its ino page place dentry → IsDentryAt (places_of relaid) ino page place dentry
     given_at page place dentry at = record { page_there = sym (ap is_some (pages_same page)) ∙ at.page_there; is = sym (ap (λ ds. slice_get ds place) (dentries_same page)) ∙ at.is }
@@ -326,23 +326,23 @@ module _ (image : Image) (point : Checkpoint) (base : Rows) (marks : List Mark) 
         let own = may.blocks ino page anew (sym (ap is_some (pages_same page)) ∙ there) in
         record { block = own.block; whole = own.whole; right = own.right; names = own.names ∙ sym (dentries_same page) }
 
-  is_taken_over : IsTakenOver image point base marks Tree Its its_unwritten
+  is_taken_over : IsTakenOver image ckpt base marks Tree Its its_unwritten
   is_taken_over = record {
     rolls = refl;
     old = Old;
-    stands = old_stands image point base marks means relaid may room;
+    stands = old_stands image ckpt base marks means relaid may room;
     anew = no_anew;
     directories = may.kinds;
     named = may.named;
     nodes = λ ino offset n there. (node_taken ino offset n there).0;
-    needed = needed image point base marks means relaid may room;
-    all_needed = all_needed image point base marks means relaid may room;
+    needed = needed image ckpt base marks means relaid may room;
+    all_needed = all_needed image ckpt base marks means relaid may room;
     new_apart = λ one other a b there too own same. apart_by one other a b own same (node_taken one.0 one.1 a there).1 (node_taken other.0 other.1 b too).1;
-    rows = λ ino page at there. rows_by ino page at (its_from ino) (sym (pages_are image point base marks means relaid may room (ino, page)) ∙ there);
-    kept_pages = kept_pages image point base marks means relaid may room;
-    marked_pages = marked_pages image point base marks means relaid may room;
-    laid_pages = λ ino page at anew there some. absurd (some (may.pages ino page at (sym (laid_pages image point base marks means relaid may room ino page anew) ∙ there)).2);
-    kept_names = λ ino page unmarked out. dentries_are image point base marks means relaid may room (ino, page) ∙ ap (λ b. cond b (map.get relaid.dentries (ino, page)) (map.get Old.dentries (ino, page))) out;
+    rows = λ ino page at there. rows_by ino page at (its_from ino) (sym (pages_are image ckpt base marks means relaid may room (ino, page)) ∙ there);
+    kept_pages = kept_pages image ckpt base marks means relaid may room;
+    marked_pages = marked_pages image ckpt base marks means relaid may room;
+    laid_pages = λ ino page at anew there some. absurd (some (may.pages ino page at (sym (laid_pages image ckpt base marks means relaid may room ino page anew) ∙ there)).2);
+    kept_names = λ ino page unmarked out. dentries_are image ckpt base marks means relaid may room (ino, page) ∙ ap (λ b. cond b (map.get relaid.dentries (ino, page)) (map.get Old.dentries (ino, page))) out;
     laid_names = laid_names;
     laid_blocks = λ ino page anew there. laid_blocks ino anew page there;
     few_nodes = few_nodes;
@@ -354,5 +354,5 @@ module _ (image : Image) (point : Checkpoint) (base : Rows) (marks : List Mark) 
   }
 
 pub taken_over : TreesAreTakenOver
-taken_over image point base marks relaid means may room =
-    (its image point base marks means relaid may room, (its_unwritten image point base marks means relaid may room, is_taken_over image point base marks means relaid may room))
+taken_over image ckpt base marks relaid means may room =
+    (its image ckpt base marks means relaid may room, (its_unwritten image ckpt base marks means relaid may room, is_taken_over image ckpt base marks means relaid may room))

@@ -18,8 +18,8 @@ use Rattle.f2_mount_laws.proofs.TakenNodes.{node_is, nids_apart, nodes_apart, le
 use Rattle.f2_mount_laws.proofs.TakenPages.{pages_apart}
 use Rattle.f2_mount_laws.proofs.TakenNames.{names_of}
 
-module _ (image : Image) (point : Checkpoint) (base : Rows) (marks : List Mark) (tree : Rows) (places : Places) (unwritten : Unwritten)
-    (means : MeansAt image point base marks) (is : IsTakenOver image point base marks tree places unwritten) where
+module _ (image : Image) (ckpt : Checkpoint) (base : Rows) (marks : List Mark) (tree : Rows) (places : Places) (unwritten : Unwritten)
+    (means : MeansAt image ckpt base marks) (is : IsTakenOver image ckpt base marks tree places unwritten) where
   page_row : (ino page : ℕ) → IsSome (map.get places.pages (ino, page)) → IsSome (map.get tree ino)
   page_row ino page there = let at = the_one (map.get places.pages (ino, page)) there in (is.rows ino page at.0 at.1).0
 
@@ -39,15 +39,15 @@ module _ (image : Image) (point : Checkpoint) (base : Rows) (marks : List Mark) 
   above_by ino offset (inode first row) other = absurd (other first)
   above_by ino offset (on_way page there way) other = named_by ino offset page there (above_is page offset way)
 
-  node_placed : (ino offset : ℕ) (n : NodeAt) → map.get places.nodes (ino, offset) ≡ Some n → IsNodePlaced point.extent tree places ino offset n
+  node_placed : (ino offset : ℕ) (n : NodeAt) → map.get places.nodes (ino, offset) ≡ Some n → IsNodePlaced ckpt.geom tree places ino offset n
   node_placed ino offset n there =
-      let its = node_is image point base marks tree places unwritten means is ino offset n there in
+      let its = node_is image ckpt base marks tree places unwritten means is ino offset n there in
       let need = is.needed ino offset (ap is_some there) in
       record {
         row = row_by ino offset need;
-        least = least image point base marks tree places unwritten means is ino offset n its;
-        most = most image point base marks tree places unwritten means is ino offset n its;
-        inode = inode_nid image point base marks tree places unwritten means is ino offset n its;
+        least = least image ckpt base marks tree places unwritten means is ino offset n its;
+        most = most image ckpt base marks tree places unwritten means is ino offset n its;
+        inode = inode_nid image ckpt base marks tree places unwritten means is ino offset n its;
         above = above_by ino offset need;
       }
 
@@ -56,18 +56,18 @@ module _ (image : Image) (point : Checkpoint) (base : Rows) (marks : List Mark) 
       let row = is.rows ino page at there in
       record { row = row.0; within = row.1; direct = λ offset direct. is.all_needed ino offset (on_way page (ap is_some there) (direct_on_way page offset direct)) }
 
-  pub laid : HasPlaces point.extent tree places
+  pub laid : HasPlaces ckpt.geom tree places
   laid = record {
     nodes = node_placed;
-    nids_apart = nids_apart image point base marks tree places unwritten means is;
-    nodes_apart = nodes_apart image point base marks tree places unwritten means is;
+    nids_apart = nids_apart image ckpt base marks tree places unwritten means is;
+    nodes_apart = nodes_apart image ckpt base marks tree places unwritten means is;
     pages = page_placed;
-    pages_apart = pages_apart image point base marks tree places unwritten means is;
+    pages_apart = pages_apart image ckpt base marks tree places unwritten means is;
     inodes = λ ino row there. is.all_needed ino 0 (inode refl (ap is_some there));
-    names = names_of image point base marks tree places unwritten means is;
+    names = names_of image ckpt base marks tree places unwritten means is;
     few_nodes = is.few_nodes;
     few_pages = is.few_pages;
   }
 
 pub have_places : TakenOverTreesHavePlaces
-have_places image point base marks tree places unwritten means is = laid image point base marks tree places unwritten means is
+have_places image ckpt base marks tree places unwritten means is = laid image ckpt base marks tree places unwritten means is

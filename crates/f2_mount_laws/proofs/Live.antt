@@ -23,15 +23,15 @@ use Rattle.f2_mount_laws.proofs.Standing.{node_here, page_here, rows_have}
 use Rattle.f2_mount_laws.proofs.TakenNodes.{NodeIs, in_base, in_log, new, node_is}
 
 module _ (lists : Contents) (held : Reference) (base : Rows) (marks : List Mark) (tree : Rows) (places : Places) (unwritten : Unwritten)
-    (holds : HoldsImage lists held base marks) (log : All (λ one. HasOne lists held.image one.at) (chain held.image held.point)) (is : IsTakenOver held.image held.point base marks tree places unwritten) where
+    (holds : HoldsImage lists held base marks) (log : All (λ one. HasOne lists held.image one.at) (chain held.image held.ckpt)) (is : IsTakenOver held.image held.ckpt base marks tree places unwritten) where
   abbrev Is : ℕ → ℕ → NodeAt → Type 0
-  Is ino offset n = NodeIs held.image held.point base marks tree places unwritten holds.means is ino offset n
+  Is ino offset n = NodeIs held.image held.ckpt base marks tree places unwritten holds.means is ino offset n
 
   -- a node's block has one content
   one_content : (ino offset : ℕ) (n : NodeAt) → n.at ≢ 0 → Is ino offset n → HasOne lists held.image n.at
   one_content ino offset n some (in_base there) =
       holds.read n.at
-      (depending.node ino offset n.nid (is_node held.image held.point base holds.means.is_base is.old is.stands ino offset n there) (sym (node_at held.image held.point base holds.means.is_base is.old is.stands ino offset n there)))
+      (depending.node ino offset n.nid (is_node held.image held.ckpt base holds.means.is_base is.old is.stands ino offset n there) (sym (node_at held.image held.ckpt base holds.means.is_base is.old is.stands ino offset n there)))
   one_content ino offset n some (in_log its) = subst (HasOne lists held.image) (sym its.at_is) (log its.place no_block its.within)
   one_content ino offset n some (new other nowhere own) = absurd (some nowhere)
 
@@ -39,21 +39,21 @@ module _ (lists : Contents) (held : Reference) (base : Rows) (marks : List Mark)
   newest at one = ap last_of one
 
   node_live : (ino offset : ℕ) (n : NodeAt) → map.get places.nodes (ino, offset) ≡ Some n → set.contains unwritten.nodes (ino, offset) ≡ false
-      → IsNodeHere held.point.extent tree places ino offset n (last_of (contents_at lists n.at))
+      → IsNodeHere held.ckpt.geom tree places ino offset n (last_of (contents_at lists n.at))
   node_live ino offset n there out =
-      let here = node_here held.image held.point base marks tree places unwritten holds.means is ino offset n there out in
-      let own = node_is held.image held.point base marks tree places unwritten holds.means is ino offset n there in
-      subst (IsNodeHere held.point.extent tree places ino offset n) (sym (newest n.at (one_content ino offset n (in_node_some held.point.extent n.at here.in_zone) own))) here
+      let here = node_here held.image held.ckpt base marks tree places unwritten holds.means is ino offset n there out in
+      let own = node_is held.image held.ckpt base marks tree places unwritten holds.means is ino offset n there in
+      subst (IsNodeHere held.ckpt.geom tree places ino offset n) (sym (newest n.at (one_content ino offset n (in_node_some held.ckpt.geom n.at here.in_zone) own))) here
 
-  page_live : (ino page at : ℕ) → map.get places.pages (ino, page) ≡ Some at → set.contains unwritten.pages (ino, page) ≡ false → IsPageHere held.point.extent tree places ino page at (last_of (contents_at lists at))
+  page_live : (ino page at : ℕ) → map.get places.pages (ino, page) ≡ Some at → set.contains unwritten.pages (ino, page) ≡ false → IsPageHere held.ckpt.geom tree places ino page at (last_of (contents_at lists at))
   page_live ino page at there out =
-      let taken = page_here held.image held.point base marks tree places unwritten holds.means is ino page at there out in
-      subst (IsPageHere held.point.extent tree places ino page at) (sym (newest at (holds.read at (depending.page ino page taken.read)))) taken.here
+      let taken = page_here held.image held.ckpt base marks tree places unwritten holds.means is ino page at there out in
+      subst (IsPageHere held.ckpt.geom tree places ino page at) (sym (newest at (holds.read at (depending.page ino page taken.read)))) taken.here
 
 pub are_live : TakenOverTreesAreLive
 are_live lists held base marks tree places unwritten holds log is = record {
-  laid = laid held.image held.point base marks tree places unwritten holds.means is;
+  laid = laid held.image held.ckpt base marks tree places unwritten holds.means is;
   nodes = node_live lists held base marks tree places unwritten holds log is;
   pages = page_live lists held base marks tree places unwritten holds log is;
-  rows = rows_have held.image held.point base marks tree places unwritten holds.means is;
+  rows = rows_have held.image held.ckpt base marks tree places unwritten holds.means is;
 }

@@ -57,13 +57,13 @@ module _ (image : Image) where
       one_more (record { at = at; block = block_at image at }) (chain_from image version most (footer_next (block_at image at))) refl
       (chain_from_image version most (footer_next (block_at image at))) (at == 0) (footer_version (block_at image at) == version)
 
-  module _ (point : Checkpoint) where
-    all_of_image : AllByRecursion IsOfImage (chain image point)
+  module _ (ckpt : Checkpoint) where
+    all_of_image : AllByRecursion IsOfImage (chain image ckpt)
     unfolding chain
-    all_of_image = chain_from_image (recovery_version point) (node_third point.extent + 1) point.head.log_start
+    all_of_image = chain_from_image (recovery_version ckpt) (node_third ckpt.geom + 1) ckpt.head.log_start
 
-    pub block_is : (place : ℕ) → place < length (chain image point) → block_in (chain image point) place ≡ block_at image (address_of (chain image point) place)
-    block_is place small = at_place IsOfImage (chain image point) place no_block all_of_image small
+    pub block_is : (place : ℕ) → place < length (chain image ckpt) → block_in (chain image ckpt) place ≡ block_at image (address_of (chain image ckpt) place)
+    block_is place small = at_place IsOfImage (chain image ckpt) place no_block all_of_image small
 
-    pub zone_is : IsCheckpoint image point → IsSound image point → (place : ℕ) → place < length (chain image point) → IsTrue (is_in_node point.extent (address_of (chain image point) place))
-    zone_is checkpoint sound place small = at_place (λ one. IsTrue (is_in_node point.extent one.at)) (chain image point) place no_block (chain_in_zone image point checkpoint sound) small
+    pub zone_is : IsCheckpoint image ckpt → IsSound image ckpt → (place : ℕ) → place < length (chain image ckpt) → IsTrue (is_in_node ckpt.geom (address_of (chain image ckpt) place))
+    zone_is checkpoint sound place small = at_place (λ one. IsTrue (is_in_node ckpt.geom one.at)) (chain image ckpt) place no_block (chain_in_zone image ckpt checkpoint sound) small

@@ -11,7 +11,7 @@ use Rattle.f2_place_laws.proofs.Options.{the_one}
 use Rattle.f2_place_laws.proofs.Uppers.{upper_of, one_upper}
 use Rattle.f2_mount_laws.proofs.WayKinds.{holds_on_way}
 
-module _ (image : Image) (point : Checkpoint) (base : Rows) (old : Places) (stands : IsTreeAt image point base old) where
+module _ (image : Image) (ckpt : Checkpoint) (base : Rows) (old : Places) (stands : IsTreeAt image ckpt base old) where
   upper_in_base : (ino lower : ℕ) → lower ≢ 0 → IsSome (map.get old.nodes (ino, lower)) → IsSome (map.get old.nodes (ino, upper_of lower))
   upper_in_base ino lower other there =
       let at = the_one (map.get old.nodes (ino, lower)) there in

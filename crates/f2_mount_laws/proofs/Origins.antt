@@ -22,18 +22,18 @@ put_here tree k v q e = map.get-insert nat_cmp_total tree k v q ∙ ap (λ b. co
 put_elsewhere : (tree : Rows) (k : ℕ) (v : Row) (q : ℕ) → q ≢ k → map.get (map.insert tree k v) q ≡ map.get tree q
 put_elsewhere tree k v q other = map.get-insert nat_cmp_total tree k v q ∙ ap (λ b. cond b (Some v) (map.get tree q)) (unsigned_tied q k ∙ test_differs q k other)
 
-module _ (image : Image) (point : Checkpoint) (base : Rows) (ino : ℕ) where
+module _ (image : Image) (ckpt : Checkpoint) (base : Rows) (ino : ℕ) where
   abbrev passes : ℕ → Bool
-  passes place = is_marked (block_in (chain image point) place)
+  passes place = is_marked (block_in (chain image ckpt) place)
 
   abbrev own : ℕ → ℕ
-  own place = footer_ino (block_in (chain image point) place)
+  own place = footer_ino (block_in (chain image ckpt) place)
 
   abbrev limit : ℕ
-  limit = length (chain image point)
+  limit = length (chain image ckpt)
 
   abbrev Fits : List ℕ → List Mark → Type 0
-  Fits places marks = AllZip (IsMark image point base (chain image point)) places marks
+  Fits places marks = AllZip (IsMark image ckpt base (chain image ckpt)) places marks
 
   -- no mark of the file stands from a place on
   abbrev NoneFrom : ℕ → Type 0
@@ -42,7 +42,7 @@ module _ (image : Image) (point : Checkpoint) (base : Rows) (ino : ℕ) where
   -- what the marks from a place on make of a row
   data Rolls (from : ℕ) (under after : Rows) : Type 0 where
     same : map.get after ino ≡ map.get under ino → NoneFrom from → Rolls from under after
-    last : (place : ℕ) (mark : Mark) → from ≤ place → place < limit → passes place ≡ true → IsMark image point base (chain image point) place mark → mark.ino ≡ ino → map.get after ino ≡ Some mark.row
+    last : (place : ℕ) (mark : Mark) → from ≤ place → place < limit → passes place ≡ true → IsMark image ckpt base (chain image ckpt) place mark → mark.ino ≡ ino → map.get after ino ≡ Some mark.row
         → NoneFrom (place + 1) → Rolls from under after
 
   abbrev Stand : ℕ → ℕ → Type 0
@@ -58,7 +58,7 @@ module _ (image : Image) (point : Checkpoint) (base : Rows) (ino : ℕ) where
   earlier from under after e (last place mark low small marked is its there none) = last place mark (omega (arith, low)) small marked is its there none
 
   -- one that is
-  one_more : (from : ℕ) (under : Rows) (mark : Mark) (after : Rows) → from < limit → passes from ≡ true → IsMark image point base (chain image point) from mark
+  one_more : (from : ℕ) (under : Rows) (mark : Mark) (after : Rows) → from < limit → passes from ≡ true → IsMark image ckpt base (chain image ckpt) from mark
       → Rolls (from + 1) (map.insert under mark.ino mark.row) after → Rolls from under after
   one_more from under mark after within e is (last place other low small marked at its there none) = last place other (omega (arith, low)) small marked at its there none
   one_more from under mark after within e is (same stays none) = by_ino (ℕ_discrete mark.ino ino)
@@ -85,14 +85,14 @@ module _ (image : Image) (point : Checkpoint) (base : Rows) (ino : ℕ) where
 
   -- a row of the tree that base and marks make
   pub data Origin (tree : Rows) : Type 0 where
-    of_base : IsUnmarked image point ino → map.get tree ino ≡ map.get base ino → Origin tree
-    of_mark : (place : ℕ) (mark : Mark) → IsLastMark image point ino place → IsMark image point base (chain image point) place mark → mark.ino ≡ ino → map.get tree ino ≡ Some mark.row → Origin tree
+    of_base : IsUnmarked image ckpt ino → map.get tree ino ≡ map.get base ino → Origin tree
+    of_mark : (place : ℕ) (mark : Mark) → IsLastMark image ckpt ino place → IsMark image ckpt base (chain image ckpt) place mark → mark.ino ≡ ino → map.get tree ino ≡ Some mark.row → Origin tree
 
   -- a marked block stands at its place
-  marked_there : (place : ℕ) (block : List ℕ) → IsMarkedAt image point place block → passes place ≡ true
+  marked_there : (place : ℕ) (block : List ℕ) → IsMarkedAt image ckpt place block → passes place ≡ true
   marked_there place block at = ap is_marked (sym at.stands) ∙ at.marked
 
-  own_there : (place : ℕ) (block : List ℕ) → IsMarkedAt image point place block → footer_ino block ≡ ino → own place ≡ ino
+  own_there : (place : ℕ) (block : List ℕ) → IsMarkedAt image ckpt place block → footer_ino block ≡ ino → own place ≡ ino
   own_there place block at its = ap footer_ino (sym at.stands) ∙ its
 
   from_rolls : (tree : Rows) → Rolls 0 base tree → Origin tree
@@ -104,5 +104,5 @@ module _ (image : Image) (point : Checkpoint) (base : Rows) (ino : ℕ) where
         last = λ later block at theirs. not_less place later (λ past. none later (omega (arith, past)) at.within (marked_there later block at) (own_there later block at theirs));
       }) is its there
 
-  pub origin : (marks : List Mark) → AreMarks image point base marks → (tree : Rows) → tree ≡ rolled base marks → Origin tree
+  pub origin : (marks : List Mark) → AreMarks image ckpt base marks → (tree : Rows) → tree ≡ rolled base marks → Origin tree
   origin marks are tree is = subst Origin (sym is) (from_rolls (rolled base marks) (stand 0 limit (omega arith) base marks are))

@@ -3,7 +3,7 @@ use Rattle.std.proofs.Common.{◌≡◌, zero, suc, [], ◌∷◌, length, All, 
 use Rattle.std.specs.Prelude.{None, Some}
 use Rattle.std.proofs.lemmas.List.{take_all}
 use Rattle.std.proofs.lemmas.List.Elements.{All-contains, All-tail}
-use Rattle.f2_format.specs.Geometry.{Extent}
+use Rattle.f2_format.specs.Geometry.{ImageGeometry}
 use Rattle.f2_disk.specs.Contents.{Contents, IsBlock, IsImage, latest}
 use Rattle.f2_model.specs.Tree.{Rows}
 use Rattle.f2_model.specs.State.{State, Meaning, MayRemain, rolled}
@@ -32,7 +32,7 @@ blocks_of (list ∷ lists) (block ∷ image) is blocks zero d small = All-contai
 blocks_of (list ∷ lists) (block ∷ image) is blocks (suc k) d small = blocks_of lists image is.1 (All-tail (All IsBlock) list lists blocks) k d (omega (arith, small))
 
 -- an image has one size
-one_size : (image : Image) (a b : Extent) → IsSized image a → IsSized image b → a ≡ b
+one_size : (image : Image) (a b : ImageGeometry) → IsSized image a → IsSized image b → a ≡ b
 one_size image a b (by_first right is) (by_first other also) = is ∙ sym also
 one_size image a b (by_first right is) (by_second wrong other also) = absurd (wrong right)
 one_size image a b (by_second wrong right is) (by_first other also) = absurd (wrong other)
@@ -49,8 +49,8 @@ module _ (lists : Contents) (layout : Layout) (state : State) (packs : KeepsPack
   unfolding image
   is_image = latest_is_image lists packs.whole.held
 
-  no_tail : ¬ (IsPendingTail layout.pending (block_at image (tail_address (other_side layout.base.point.side))))
-  no_tail tail = subst (λ pending. IsPendingTail pending (block_at image (tail_address (other_side layout.base.point.side)))) none tail
+  no_tail : ¬ (IsPendingTail layout.pending (block_at image (tail_address (other_side layout.base.ckpt.side))))
+  no_tail tail = subst (λ pending. IsPendingTail pending (block_at image (tail_address (other_side layout.base.ckpt.side)))) none tail
 
   pub left : IsLeft all_kept image
   left = found_left lists layout all_kept
@@ -67,12 +67,12 @@ module _ (lists : Contents) (layout : Layout) (state : State) (packs : KeepsPack
       (record { base = keeps.base; log = keeps.log; ends = keeps.ends; acknowledged = omega arith })
       image is_image no_tail
 
-  sized : left.point.extent ≡ layout.base.point.extent
-  sized = one_size image left.point.extent layout.base.point.extent left.means.checkpoint.sized (base_counts lists image is_image layout.base state.base state.marks keeps.base layout.pending packs.packs no_tail).sized
+  sized : left.ckpt.geom ≡ layout.base.ckpt.geom
+  sized = one_size image left.ckpt.geom layout.base.ckpt.geom left.means.checkpoint.sized (base_counts lists image is_image layout.base state.base state.marks keeps.base layout.pending packs.packs no_tail).sized
 
-  is_proper : IsProperTree (image_limits layout.base.point.extent) (rolled left.meaning.base left.meaning.marks)
-  is_proper = subst (λ (extent : Extent). IsProperTree (image_limits extent) (rolled left.meaning.base left.meaning.marks)) sized
-      (rolled_tree_proper image left.point left.meaning.base left.meaning.marks (blocks_of lists image is_image packs.whole.contents) left.means)
+  is_proper : IsProperTree (image_limits layout.base.ckpt.geom) (rolled left.meaning.base left.meaning.marks)
+  is_proper = subst (λ (geom : ImageGeometry). IsProperTree (image_limits geom) (rolled left.meaning.base left.meaning.marks)) sized
+      (rolled_tree_proper image left.ckpt left.meaning.base left.meaning.marks (blocks_of lists image is_image packs.whole.contents) left.means)
 
   -- all marks are rolled over the base
   no_tree : (tree : Rows) → state.pending ≡ Some tree → ⊥
@@ -86,16 +86,16 @@ module _ (lists : Contents) (layout : Layout) (state : State) (packs : KeepsPack
   pub image_blocks : All IsBlock image
   image_blocks = blocks_of lists image is_image packs.whole.contents
 
-  same_meaning : (meaning : Meaning) → MayRemain all_kept meaning → MeansAt image left.point meaning.base meaning.marks → MeansAt image left.point state.base state.marks
+  same_meaning : (meaning : Meaning) → MayRemain all_kept meaning → MeansAt image left.ckpt meaning.base meaning.marks → MeansAt image left.ckpt state.base state.marks
   same_meaning meaning (inl (place, from, to, is)) means =
-      subst (MeansAt image left.point state.base) (take_all place state.marks from) (subst (λ (m : Meaning). MeansAt image left.point m.base m.marks) is means)
+      subst (MeansAt image left.ckpt state.base) (take_all place state.marks from) (subst (λ (m : Meaning). MeansAt image left.ckpt m.base m.marks) is means)
   same_meaning meaning (inr (tree, there, is)) means = absurd (no_tree tree there)
 
-  pub image_means : MeansAt image left.point state.base state.marks
+  pub image_means : MeansAt image left.ckpt state.base state.marks
   image_means = same_meaning left.meaning left.remains left.means
 
-  pub mounted_proper : IsProperTree (image_limits layout.base.point.extent) (rolled state.base state.marks)
-  mounted_proper = subst (IsProperTree (image_limits layout.base.point.extent)) (all_rolled left.meaning left.remains) is_proper
+  pub mounted_proper : IsProperTree (image_limits layout.base.ckpt.geom) (rolled state.base state.marks)
+  mounted_proper = subst (IsProperTree (image_limits layout.base.ckpt.geom)) (all_rolled left.meaning left.remains) is_proper
 
 pub are_proper : RolledTreesOfMountsAreProper
 are_proper lists layout state packs keeps none = mounted_proper lists layout state packs keeps none
@@ -104,6 +104,6 @@ pub may_be_written : TakenOverTreesMayBeWritten
 may_be_written lists layout state places unwritten goes = record {
   stored = mounting goes.packs goes.image;
   none_pending = goes.none_pending;
-  proper = subst (IsProperTree (image_limits layout.base.point.extent)) (sym goes.taken.rolls) (mounted_proper lists layout state goes.packs goes.image goes.none_pending);
+  proper = subst (IsProperTree (image_limits layout.base.ckpt.geom)) (sym goes.taken.rolls) (mounted_proper lists layout state goes.packs goes.image goes.none_pending);
   live = are_live lists layout.base state.base state.marks state.live places unwritten goes.image.base goes.image.log goes.taken;
 }

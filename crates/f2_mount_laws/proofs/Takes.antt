@@ -10,7 +10,7 @@ use Rattle.std.proofs.lemmas.List.{length-append, length-map}
 use Rattle.f2_format.specs.Offsets.{page_limit, direct_of, nodes_of_page}
 use Rattle.f2_format.specs.Dentry.{Dentry}
 use Rattle.f2_format.specs.Footer.{footer_nid, footer_ino, footer_offset}
-use Rattle.f2_format.specs.Geometry.{Extent, node_third, nid_limit}
+use Rattle.f2_format.specs.Geometry.{ImageGeometry, node_third, nid_limit}
 use Rattle.f2_model.specs.Tree.{Rows}
 use Rattle.f2_model.specs.State.{Mark, rolled, pair_cmp}
 use Rattle.f2_model.specs.declared.rows.Row.{Row}
@@ -90,9 +90,9 @@ in_chain (one ∷ rest) zero small = inl refl
 in_chain (one ∷ rest) (suc place) small = inr (in_chain rest place (omega (arith, small)))
 
 -- an image has three nids for each node that it grants
-nids_room : (image : Image) (extent : Extent) → IsSized image extent → 3 * node_third extent + 4 ≤ nid_limit extent
-nids_room image extent (by_first right is) = subst (λ (e : Extent). 3 * node_third e + 4 ≤ nid_limit e) (sym is) right.geometry.nids
-nids_room image extent (by_second wrong right is) = subst (λ (e : Extent). 3 * node_third e + 4 ≤ nid_limit e) (sym is) right.geometry.nids
+nids_room : (image : Image) (geom : ImageGeometry) → IsSized image geom → 3 * node_third geom + 4 ≤ nid_limit geom
+nids_room image geom (by_first right is) = subst (λ (e : ImageGeometry). 3 * node_third e + 4 ≤ nid_limit e) (sym is) right.geometry.nids
+nids_room image geom (by_second wrong right is) = subst (λ (e : ImageGeometry). 3 * node_third e + 4 ≤ nid_limit e) (sym is) right.geometry.nids
 
 -- each node that names others has a first slot
 first_slot : (offset : ℕ) → 0 < nids_of_node offset
@@ -105,18 +105,18 @@ below_test n m small = grind (arith, nat_tests, small)
 not_below : (n m : ℕ) → nat_lt n m ≡ true → n < m
 not_below n m e = grind (arith, nat_tests, e)
 
-module _ (image : Image) (point : Checkpoint) (base : Rows) (marks : List Mark) (means : MeansAt image point base marks) (relaid : Relaid) (may : MayBeRelaid base (rolled base marks) relaid) (room : HasRoomFor image point (rolled base marks) relaid) where
+module _ (image : Image) (ckpt : Checkpoint) (base : Rows) (marks : List Mark) (means : MeansAt image ckpt base marks) (relaid : Relaid) (may : MayBeRelaid base (rolled base marks) relaid) (room : HasRoomFor image ckpt (rolled base marks) relaid) where
   abbrev pub old : Places
-  old = places image point means.sound base means.is_base
+  old = places image ckpt means.sound base means.is_base
 
-  pub old_stands : IsTreeAt image point base old
-  old_stands = base_stands image point means.sound base means.is_base
+  pub old_stands : IsTreeAt image ckpt base old
+  old_stands = base_stands image ckpt means.sound base means.is_base
 
   abbrev pub tree : Rows
   tree = rolled base marks
 
-  origin_of : (ino : ℕ) → Origin image point base ino tree
-  origin_of ino = origin image point base ino marks means.are_marks tree refl
+  origin_of : (ino : ℕ) → Origin image ckpt base ino tree
+  origin_of ino = origin image ckpt base ino marks means.are_marks tree refl
 
   abbrev pub laid_test : ℕ → Bool
   laid_test ino = set.contains relaid.directories ino
@@ -124,10 +124,10 @@ module _ (image : Image) (point : Checkpoint) (base : Rows) (marks : List Mark) 
   -- a row is laid out anew, the base's, or a marked file's
   pub data From (ino : ℕ) : Type 0 where
     is_laid : laid_test ino ≡ true → From ino
-    is_base : laid_test ino ≡ false → IsUnmarked image point ino → map.get tree ino ≡ map.get base ino → From ino
-    is_mark : laid_test ino ≡ false → (place : ℕ) (mark : Mark) → IsLastMark image point ino place → IsMark image point base (chain image point) place mark → mark.ino ≡ ino → map.get tree ino ≡ Some mark.row → From ino
+    is_base : laid_test ino ≡ false → IsUnmarked image ckpt ino → map.get tree ino ≡ map.get base ino → From ino
+    is_mark : laid_test ino ≡ false → (place : ℕ) (mark : Mark) → IsLastMark image ckpt ino place → IsMark image ckpt base (chain image ckpt) place mark → mark.ino ≡ ino → map.get tree ino ≡ Some mark.row → From ino
 
-  from_by : (ino : ℕ) → (b : Bool) → laid_test ino ≡ b → Origin image point base ino tree → From ino
+  from_by : (ino : ℕ) → (b : Bool) → laid_test ino ≡ b → Origin image ckpt base ino tree → From ino
   from_by ino true e o = is_laid e
   from_by ino false e (of_base unmarked same) = is_base e unmarked same
   from_by ino false e (of_mark place mark last at own there) = is_mark e place mark last at own there
@@ -136,7 +136,7 @@ module _ (image : Image) (point : Checkpoint) (base : Rows) (marks : List Mark) 
   from ino = from_by ino (laid_test ino) refl (origin_of ino)
 
   -- the tree has the rows of the base
-  row_by : (ino : ℕ) (o : Origin image point base ino tree) → IsSome (map.get base ino) → IsSome (map.get tree ino)
+  row_by : (ino : ℕ) (o : Origin image ckpt base ino tree) → IsSome (map.get base ino) → IsSome (map.get tree ino)
   row_by ino (of_base unmarked same) row = ap is_some same ∙ row
   row_by ino (of_mark place mark last at own there) row = ap is_some there
 
@@ -147,18 +147,18 @@ module _ (image : Image) (point : Checkpoint) (base : Rows) (marks : List Mark) 
   laid_row ino isnew = tree_row ino (ap is_some (may.kinds ino isnew).1)
 
   -- no marked file is laid out anew
-  out_by : (ino place : ℕ) → IsLastMark image point ino place → Origin image point base ino tree → laid_test ino ≡ true → ⊥
-  out_by ino place last (of_base unmarked same) isnew = unmarked place (block_in (chain image point) place) last.marked last.own
+  out_by : (ino place : ℕ) → IsLastMark image ckpt ino place → Origin image ckpt base ino tree → laid_test ino ≡ true → ⊥
+  out_by ino place last (of_base unmarked same) isnew = unmarked place (block_in (chain image ckpt) place) last.marked last.own
   out_by ino place last (of_mark other mark one at own there) isnew =
       let row = may.kinds ino isnew in
-      mark_rows.no_directory image point means.sound base means.is_base other mark at one.marked (is_directory image point means.sound base means.is_base mark.ino row.0 (ap (map.get base) own ∙ row.1) row.2)
+      mark_rows.no_directory image ckpt means.sound base means.is_base other mark at one.marked (is_directory image ckpt means.sound base means.is_base mark.ino row.0 (ap (map.get base) own ∙ row.1) row.2)
 
-  pub not_laid : (ino place : ℕ) → IsLastMark image point ino place → laid_test ino ≡ true → ⊥
+  pub not_laid : (ino place : ℕ) → IsLastMark image ckpt ino place → laid_test ino ≡ true → ⊥
   not_laid ino place last isnew = out_by ino place last (origin_of ino) isnew
 
   -- the pages
   abbrev pub marked_page : ℕ → ℕ → Option ℕ
-  marked_page place page = cond (nat_lt page page_limit) (some_address (marked_address image point (chain image point) place page)) None
+  marked_page place page = cond (nat_lt page page_limit) (some_address (marked_address image ckpt (chain image ckpt) place page)) None
 
   abbrev pub page_by : (ino : ℕ) → From ino → ℕ → Option ℕ
   page_by ino (is_laid isnew) page = map.get relaid.pages (ino, page)
@@ -175,10 +175,10 @@ module _ (image : Image) (point : Checkpoint) (base : Rows) (marks : List Mark) 
   its_pages = chosen page_of page_keys
 
   -- a file has one last mark
-  same_place : (ino a b : ℕ) → IsLastMark image point ino a → IsLastMark image point ino b → a ≡ b
+  same_place : (ino a b : ℕ) → IsLastMark image ckpt ino a → IsLastMark image ckpt ino b → a ≡ b
   same_place ino a b one other =
-      let first = other.last a (block_in (chain image point) a) one.marked one.own in
-      let second = one.last b (block_in (chain image point) b) other.marked other.own in
+      let first = other.last a (block_in (chain image ckpt) a) one.marked one.own in
+      let second = one.last b (block_in (chain image ckpt) b) other.marked other.own in
       omega (arith, first, second)
 
   page_laid : (ino page : ℕ) (o : From ino) → laid_test ino ≡ true → page_by ino o page ≡ map.get relaid.pages (ino, page)
@@ -186,23 +186,23 @@ module _ (image : Image) (point : Checkpoint) (base : Rows) (marks : List Mark) 
   page_laid ino page (is_base out unmarked same) anew = absurd (true≢false (sym anew ∙ out))
   page_laid ino page (is_mark out place mark last at own there) anew = absurd (true≢false (sym anew ∙ out))
 
-  page_unmarked : (ino page : ℕ) (o : From ino) → IsUnmarked image point ino → laid_test ino ≡ false → page_by ino o page ≡ map.get old.pages (ino, page)
+  page_unmarked : (ino page : ℕ) (o : From ino) → IsUnmarked image ckpt ino → laid_test ino ≡ false → page_by ino o page ≡ map.get old.pages (ino, page)
   page_unmarked ino page (is_laid isnew) none_is off = absurd (true≢false (sym isnew ∙ off))
   page_unmarked ino page (is_base out unmarked same) none_is off = refl
-  page_unmarked ino page (is_mark out place mark last at own there) none_is off = absurd (none_is place (block_in (chain image point) place) last.marked last.own)
+  page_unmarked ino page (is_mark out place mark last at own there) none_is off = absurd (none_is place (block_in (chain image ckpt) place) last.marked last.own)
 
-  page_marked : (ino page place : ℕ) (o : From ino) → IsLastMark image point ino place → page_by ino o page ≡ marked_page place page
+  page_marked : (ino page place : ℕ) (o : From ino) → IsLastMark image ckpt ino place → page_by ino o page ≡ marked_page place page
   page_marked ino page place (is_laid isnew) last = absurd (not_laid ino place last isnew)
-  page_marked ino page place (is_base out unmarked same) last = absurd (unmarked place (block_in (chain image point) place) last.marked last.own)
+  page_marked ino page place (is_base out unmarked same) last = absurd (unmarked place (block_in (chain image ckpt) place) last.marked last.own)
   page_marked ino page place (is_mark out other mark one at own there) last = ap (λ p. marked_page p page) (same_place ino other place one last)
 
   -- a page of a mark is within the limit
-  pub within_limit : (place page at : ℕ) → marked_page place page ≡ Some at → (page < page_limit) × (marked_address image point (chain image point) place page ≡ at) × (at ≢ 0)
+  pub within_limit : (place page at : ℕ) → marked_page place page ≡ Some at → (page < page_limit) × (marked_address image ckpt (chain image ckpt) place page ≡ at) × (at ≢ 0)
   within_limit place page at = by_test (nat_lt page page_limit) refl
     where
-      by_test : (b : Bool) → nat_lt page page_limit ≡ b → cond b (some_address (marked_address image point (chain image point) place page)) None ≡ Some at
-          → (page < page_limit) × (marked_address image point (chain image point) place page ≡ at) × (at ≢ 0)
-      by_test true e is = let address = address_some at (marked_address image point (chain image point) place page) is in (not_below page page_limit e, address.0, address.1)
+      by_test : (b : Bool) → nat_lt page page_limit ≡ b → cond b (some_address (marked_address image ckpt (chain image ckpt) place page)) None ≡ Some at
+          → (page < page_limit) × (marked_address image ckpt (chain image ckpt) place page ≡ at) × (at ≢ 0)
+      by_test true e is = let address = address_some at (marked_address image ckpt (chain image ckpt) place page) is in (not_below page page_limit e, address.0, address.1)
       by_test false e is = absurd (none-some at is)
 
   covers_by : (ino page at : ℕ) (o : From ino) → page_by ino o page ≡ Some at → IsIn (ino, page) page_keys
@@ -222,24 +222,24 @@ module _ (image : Image) (point : Checkpoint) (base : Rows) (marks : List Mark) 
   pub laid_pages : (ino page : ℕ) → laid_test ino ≡ true → map.get its_pages (ino, page) ≡ map.get relaid.pages (ino, page)
   laid_pages ino page anew = pages_are (ino, page) ∙ page_laid ino page (from ino) anew
 
-  pub kept_pages : (ino page : ℕ) → IsUnmarked image point ino → laid_test ino ≡ false → map.get its_pages (ino, page) ≡ map.get old.pages (ino, page)
+  pub kept_pages : (ino page : ℕ) → IsUnmarked image ckpt ino → laid_test ino ≡ false → map.get its_pages (ino, page) ≡ map.get old.pages (ino, page)
   kept_pages ino page unmarked off = pages_are (ino, page) ∙ page_unmarked ino page (from ino) unmarked off
 
-  pub marked_pages : (ino place page : ℕ) → IsLastMark image point ino place → page < page_limit → map.get its_pages (ino, page) ≡ some_address (marked_address image point (chain image point) place page)
+  pub marked_pages : (ino place page : ℕ) → IsLastMark image ckpt ino place → page < page_limit → map.get its_pages (ino, page) ≡ some_address (marked_address image ckpt (chain image ckpt) place page)
   marked_pages ino place page last within =
       pages_are (ino, page) ∙ page_marked ino page place (from ino) last
-      ∙ ap (λ b. cond b (some_address (marked_address image point (chain image point) place page)) None) (below_test page page_limit within)
+      ∙ ap (λ b. cond b (some_address (marked_address image ckpt (chain image ckpt) place page)) None) (below_test page page_limit within)
 
   -- the nodes
-  abbrev pub logged_node : (ino offset place : ℕ) → LastBlock (chain image point) place ino offset → Option NodeAt
-  logged_node ino offset place (found at is) = Some (record { nid = footer_nid (block_in (chain image point) at); at = address_of (chain image point) at })
+  abbrev pub logged_node : (ino offset place : ℕ) → LastBlock (chain image ckpt) place ino offset → Option NodeAt
+  logged_node ino offset place (found at is) = Some (record { nid = footer_nid (block_in (chain image ckpt) at); at = address_of (chain image ckpt) at })
   logged_node ino offset place (none is) = map.get old.nodes (ino, offset)
 
   abbrev pub below_node : (ino offset place : ℕ) → Bool → Option NodeAt
-  below_node ino offset place is_upper = cond is_upper (map.get old.nodes (ino, offset)) (logged_node ino offset place (last_block (chain image point) place ino offset))
+  below_node ino offset place is_upper = cond is_upper (map.get old.nodes (ino, offset)) (logged_node ino offset place (last_block (chain image ckpt) place ino offset))
 
   abbrev pub marked_node : (ino offset place : ℕ) → Option NodeAt
-  marked_node ino offset place = cond (offset == 0) (Some (record { nid = ino; at = address_of (chain image point) place })) (below_node ino offset place (is_some (offset_below offset 0)))
+  marked_node ino offset place = cond (offset == 0) (Some (record { nid = ino; at = address_of (chain image ckpt) place })) (below_node ino offset place (is_some (offset_below offset 0)))
 
   abbrev pub node_by : (ino : ℕ) → From ino → ℕ → Option NodeAt
   node_by ino (is_laid isnew) offset = map.get old.nodes (ino, offset)
@@ -260,10 +260,10 @@ module _ (image : Image) (point : Checkpoint) (base : Rows) (marks : List Mark) 
   missing = chosen missing_for node_keys
 
   used : List ℕ
-  used = map_list (λ (n : NodeAt). n.nid) (map.values old.nodes) ++ map_list (λ (one : Logged). footer_nid one.block) (chain image point)
+  used = map_list (λ (n : NodeAt). n.nid) (map.values old.nodes) ++ map_list (λ (one : Logged). footer_nid one.block) (chain image ckpt)
 
   fresh : List ℕ
-  fresh = free used 4 (nid_limit point.extent - 4)
+  fresh = free used 4 (nid_limit ckpt.geom - 4)
 
   pub new_nids : map.FinMap pair_cmp ℕ
   new_nids = numbered (map.keys missing) fresh
@@ -344,51 +344,51 @@ module _ (image : Image) (point : Checkpoint) (base : Rows) (marks : List Mark) 
   -- a node that neither has is one that may be new
   pub record IsMissing (ino offset : ℕ) : Type 0 where
     pub absent : map.get old.nodes (ino, offset) ≡ None
-    pub may_come : (n : NodeAt) → StaysOrComes image point old ino offset n → IsTakenNode image point old relaid.directories ino offset n
+    pub may_come : (n : NodeAt) → StaysOrComes image ckpt old ino offset n → IsTakenNode image ckpt old relaid.directories ino offset n
 
   abbrev marked_inode : ℕ → ℕ → NodeAt
-  marked_inode ino place = record { nid = ino; at = address_of (chain image point) place }
+  marked_inode ino place = record { nid = ino; at = address_of (chain image ckpt) place }
 
   off_inode : (ino offset place : ℕ) → offset ≢ 0 → marked_node ino offset place ≡ below_node ino offset place (is_some (offset_below offset 0))
   off_inode ino offset place other = ap (λ b. cond b (Some (marked_inode ino place)) (below_node ino offset place (is_some (offset_below offset 0)))) (test_differs offset 0 other)
 
   -- a file that the base hasn't has no node in it
-  no_node : (ino place : ℕ) → IsLastMark image point ino place → map.get base ino ≡ None → node image point ino ≡ None
-  no_node ino place last absent = ap (block_there image) (not_other (node_address image point ino) 0 some_address_none)
+  no_node : (ino place : ℕ) → IsLastMark image ckpt ino place → map.get base ino ≡ None → node image ckpt ino ≡ None
+  no_node ino place last absent = ap (block_there image) (not_other (node_address image ckpt ino) 0 some_address_none)
     where
-      taken_block : IsTaken image point place (block_in (chain image point) place)
+      taken_block : IsTaken image ckpt place (block_in (chain image ckpt) place)
       taken_block = reached.marked last.marked
 
-      no_other : (file offset : ℕ) → IsNode image point file offset ino → (footer_ino (block_in (chain image point) place) ≢ file) ⊎ (footer_offset (block_in (chain image point) place) ≢ offset) → ⊥
-      no_other file offset is differ = no_bad_nat image point means.sound ino (faults.taken place (block_in (chain image point) place) file offset taken_block (mark_nid image point means.sound ino place last) (faults.in_base is) differ)
+      no_other : (file offset : ℕ) → IsNode image ckpt file offset ino → (footer_ino (block_in (chain image ckpt) place) ≢ file) ⊎ (footer_offset (block_in (chain image ckpt) place) ≢ offset) → ⊥
+      no_other file offset is differ = no_bad_nat image ckpt means.sound ino (faults.taken place (block_in (chain image ckpt) place) file offset taken_block (mark_nid image ckpt means.sound ino place last) (faults.in_base is) differ)
 
-      not_there : (file offset : ℕ) → IsNode image point file offset ino → ⊥
+      not_there : (file offset : ℕ) → IsNode image ckpt file offset ino → ⊥
       not_there file offset is =
-          let own : ino ≡ file = sym last.own ∙ not_other (footer_ino (block_in (chain image point) place)) file (λ differ. no_other file offset is (inl differ)) in
-          true≢false (sym (in_base image point base means.is_base file (node_reached image point file offset ino is)) ∙ ap (λ i. is_some (map.get base i)) (sym own) ∙ ap is_some absent)
+          let own : ino ≡ file = sym last.own ∙ not_other (footer_ino (block_in (chain image ckpt) place)) file (λ differ. no_other file offset is (inl differ)) in
+          true≢false (sym (in_base image ckpt base means.is_base file (node_reached image ckpt file offset ino is)) ∙ ap (λ i. is_some (map.get base i)) (sym own) ∙ ap is_some absent)
 
-      some_address_none : ¬ (node_address image point ino ≢ 0)
+      some_address_none : ¬ (node_address image ckpt ino ≢ 0)
       some_address_none some =
-          let given = in_table ino (nid_limit point.extent) (place_of_nid image point ino).1 some in
-          known_node image point means.sound ino (record { within = given.1; some = λ none_at. some (given.2 ∙ none_at) }) (λ is. not_there _ _ is)
+          let given = in_table ino (nid_limit ckpt.geom) (place_of_nid image ckpt ino).1 some in
+          known_node image ckpt means.sound ino (record { within = given.1; some = λ none_at. some (given.2 ∙ none_at) }) (λ is. not_there _ _ is)
 
-  direct_there : (ino offset place page at : ℕ) → IsLastMark image point ino place → marked_address image point (chain image point) place page ≡ at → at ≢ 0 → direct_of page ≡ Some offset
-      → last_before (chain image point) (place + 1) ino offset ≡ None → (o : Option Row) → map.get base ino ≡ o → IsSome (map.get old.nodes (ino, offset))
+  direct_there : (ino offset place page at : ℕ) → IsLastMark image ckpt ino place → marked_address image ckpt (chain image ckpt) place page ≡ at → at ≢ 0 → direct_of page ≡ Some offset
+      → last_before (chain image ckpt) (place + 1) ino offset ≡ None → (o : Option Row) → map.get base ino ≡ o → IsSome (map.get old.nodes (ino, offset))
   direct_there ino offset place page at last address some direct is (Some row) e =
-      direct_based image point (chain image point) place ino page offset last.own direct base means.is_base old old_stands row e is (λ zero_at. some (sym address ∙ zero_at))
+      direct_based image ckpt (chain image ckpt) place ino page offset last.own direct base means.is_base old old_stands row e is (λ zero_at. some (sym address ∙ zero_at))
   direct_there ino offset place page at last address some direct is None e =
-      absurd (some (sym address ∙ word_nowhere image point (chain image point) place ino page offset last.own direct (no_node ino place last e) is))
+      absurd (some (sym address ∙ word_nowhere image ckpt (chain image ckpt) place ino page offset last.own direct (no_node ino place last e) is))
 
-  marked_none : (ino offset place page at : ℕ) → IsLastMark image point ino place → marked_address image point (chain image point) place page ≡ at → at ≢ 0
+  marked_none : (ino offset place page at : ℕ) → IsLastMark image ckpt ino place → marked_address image ckpt (chain image ckpt) place page ≡ at → at ≢ 0
       → offset ≢ 0 → WayKind page offset → marked_node ino offset place ≡ None → IsMissing ino offset
   marked_none ino offset place page at last address some other (names_some upper) absent = record {
     absent = sym (off_inode ino offset place other ∙ ap (below_node ino offset place) upper) ∙ absent;
     may_come = λ n own. taken.marked place last (taken.indirect other (no_direct offset upper) own);
   }
   marked_none ino offset place page at last address some other (is_direct direct) absent =
-      absurd (by_last (last_block (chain image point) place ino offset) (sym (off_inode ino offset place other ∙ ap (below_node ino offset place) (direct_names_none page offset direct)) ∙ absent))
+      absurd (by_last (last_block (chain image ckpt) place ino offset) (sym (off_inode ino offset place other ∙ ap (below_node ino offset place) (direct_names_none page offset direct)) ∙ absent))
     where
-      by_last : (b : LastBlock (chain image point) place ino offset) → logged_node ino offset place b ≡ None → ⊥
+      by_last : (b : LastBlock (chain image ckpt) place ino offset) → logged_node ino offset place b ≡ None → ⊥
       by_last (found a is) e = none-some _ (sym e)
       by_last (none is) e = true≢false (sym (direct_there ino offset place page at last address some direct is (map.get base ino) refl) ∙ ap is_some e)
 
@@ -402,7 +402,7 @@ module _ (image : Image) (point : Checkpoint) (base : Rows) (marks : List Mark) 
   way_none : (ino page at offset : ℕ) (o : From ino) → page_by ino o page ≡ Some at → Contains (nodes_of_page page) offset → node_by ino o offset ≡ None → IsMissing ino offset
   way_none ino page at offset (is_laid isnew) is way absent = record { absent = absent; may_come = λ n own. taken.laid isnew own }
   way_none ino page at offset (is_base out unmarked same) is way absent =
-      absurd (true≢false (sym (way_in_base image point base old old_stands ino page offset (ap is_some is) way) ∙ ap is_some absent))
+      absurd (true≢false (sym (way_in_base image ckpt base old old_stands ino page offset (ap is_some is) way) ∙ ap is_some absent))
   way_none ino page at offset (is_mark out place mark last is_marked own there) is way absent =
       let within = within_limit place page at is in
       marked_none ino offset place page at last within.1 within.2 (way_some page offset way) (way_kind page offset way) absent
@@ -414,43 +414,43 @@ module _ (image : Image) (point : Checkpoint) (base : Rows) (marks : List Mark) 
       way_none ino page at.0 offset (from ino) (sym (pages_are (ino, page)) ∙ at.1) way absent
 
   -- each page is one of the tree, and each node that is needed
-  page_by_tree : (ino page at : ℕ) (o : From ino) → page_by ino o page ≡ Some at → IsTreePage image point relaid ino page at
+  page_by_tree : (ino page at : ℕ) (o : From ino) → page_by ino o page ≡ Some at → IsTreePage image ckpt relaid ino page at
   page_by_tree ino page at (is_laid isnew) is = existing.laid is
-  page_by_tree ino page at (is_base out unmarked same) is = existing.kept out unmarked (base_page image point base means.is_base old old_stands ino page at is)
+  page_by_tree ino page at (is_base out unmarked same) is = existing.kept out unmarked (base_page image ckpt base means.is_base old old_stands ino page at is)
   page_by_tree ino page at (is_mark out place mark last is_marked own there) is = let within = within_limit place page at is in existing.marked place last within.0 within.1 within.2
 
-  pub tree_page : (ino page at : ℕ) → map.get its_pages (ino, page) ≡ Some at → IsTreePage image point relaid ino page at
+  pub tree_page : (ino page at : ℕ) → map.get its_pages (ino, page) ≡ Some at → IsTreePage image ckpt relaid ino page at
   tree_page ino page at there = page_by_tree ino page at (from ino) (sym (pages_are (ino, page)) ∙ there)
 
-  pub tree_node : (at : ℕ × ℕ) → IsNeeded tree its at.0 at.1 → IsTreeNode image point tree relaid at
+  pub tree_node : (at : ℕ × ℕ) → IsNeeded tree its at.0 at.1 → IsTreeNode image ckpt tree relaid at
   tree_node at (inode first row) = existing.inode first row
   tree_node at (on_way page there way) =
       let address = the_one (map.get its_pages (at.0, page)) there in
       existing.on_way page address.0 (tree_page at.0 page address.0 address.1) way
 
   -- there are enough new nids
-  missing_needed : (at : ℕ × ℕ) → IsIn at (map.keys missing) → IsTreeNode image point tree relaid at
+  missing_needed : (at : ℕ × ℕ) → IsIn at (map.keys missing) → IsTreeNode image ckpt tree relaid at
   unfolding missing
   missing_needed at listed =
       let there = the_one (map.get missing at) (key_got missing at listed) in
       tree_node at (key_needed at (chosen_is missing_for node_keys at there.0 there.1).0)
 
-  few_missing : length (map.keys missing) ≤ node_third point.extent
-  few_missing = at_most (length (map.keys missing)) (node_third point.extent) (λ more.
-      room.nodes (record { some = map.keys missing; differ = differing_keys missing; all = each_in (IsTreeNode image point tree relaid) (map.keys missing) missing_needed; more = more }))
+  few_missing : length (map.keys missing) ≤ node_third ckpt.geom
+  few_missing = at_most (length (map.keys missing)) (node_third ckpt.geom) (λ more.
+      room.nodes (record { some = map.keys missing; differ = differing_keys missing; all = each_in (IsTreeNode image ckpt tree relaid) (map.keys missing) missing_needed; more = more }))
 
-  chain_short : length (chain image point) ≤ node_third point.extent
-  chain_short = at_most (length (chain image point)) (node_third point.extent) (λ more. means.sound ChainLong _ not_end (more, refl))
+  chain_short : length (chain image ckpt) ≤ node_third ckpt.geom
+  chain_short = at_most (length (chain image ckpt)) (node_third ckpt.geom) (λ more. means.sound ChainLong _ not_end (more, refl))
     where
       not_end : ChainLong ≢ VersionEnd
       not_end e = cc
 
-  used_long : length used ≤ node_third point.extent + node_third point.extent
+  used_long : length used ≤ node_third ckpt.geom + node_third ckpt.geom
   unfolding used
   used_long =
-      let both = length-append (map_list (λ (n : NodeAt). n.nid) (map.values old.nodes)) (map_list (λ (one : Logged). footer_nid one.block) (chain image point)) in
+      let both = length-append (map_list (λ (n : NodeAt). n.nid) (map.values old.nodes)) (map_list (λ (one : Logged). footer_nid one.block) (chain image ckpt)) in
       let first = length-map (map.values old.nodes) (λ (n : NodeAt). n.nid) in
-      let second = length-map (chain image point) (λ (one : Logged). footer_nid one.block) in
+      let second = length-map (chain image ckpt) (λ (one : Logged). footer_nid one.block) in
       let values = length-values old.nodes in
       let few = old_stands.laid.few_nodes in
       let short = chain_short in
@@ -459,8 +459,8 @@ module _ (image : Image) (point : Checkpoint) (base : Rows) (marks : List Mark) 
   enough : length (map.keys missing) ≤ length fresh
   unfolding fresh
   enough =
-      let three = nids_room image point.extent means.checkpoint.sized in
-      let long = free_long used 4 (nid_limit point.extent - 4) in
+      let three = nids_room image ckpt.geom means.checkpoint.sized in
+      let long = free_long used 4 (nid_limit ckpt.geom - 4) in
       let in_use = used_long in
       let few = few_missing in
       omega (arith, three, long, in_use, few)
@@ -498,21 +498,21 @@ module _ (image : Image) (point : Checkpoint) (base : Rows) (marks : List Mark) 
   node_chosen ino offset n there = (chosen_is node_for node_keys (ino, offset) n there).1
 
   -- a new nid is none of base and log
-  pub nid_is_new : (ino offset nid : ℕ) → map.get new_nids (ino, offset) ≡ Some nid → IsNewNid image point old nid
+  pub nid_is_new : (ino offset nid : ℕ) → map.get new_nids (ino, offset) ≡ Some nid → IsNewNid image ckpt old nid
   unfolding new_nids fresh used
   nid_is_new ino offset nid there =
-      let own = free_is used 4 (nid_limit point.extent - 4) nid (number_is (map.keys missing) fresh (ino, offset) nid there).1 in
+      let own = free_is used 4 (nid_limit ckpt.geom - 4) nid (number_is (map.keys missing) fresh (ino, offset) nid there).1 in
       let nids = map_list (λ (n : NodeAt). n.nid) (map.values old.nodes) in
-      let logged = map_list (λ (one : Logged). footer_nid one.block) (chain image point) in
+      let logged = map_list (λ (one : Logged). footer_nid one.block) (chain image ckpt) in
       let below = own.1 in
-      let three = nids_room image point.extent means.checkpoint.sized in
+      let three = nids_room image ckpt.geom means.checkpoint.sized in
       record {
         least = own.0;
         most = omega (arith, below, three);
         no_base = λ file other n at same. own.2 (in_front nid nids logged (subst (λ k. IsIn k nids) same (in_map (λ (m : NodeAt). m.nid) n (map.values old.nodes) (value_in old.nodes (file, other) n at))));
-        no_log = λ place small same. own.2 (in_back nid nids logged (subst (λ k. IsIn k logged) same (in_chain (chain image point) place small)));
+        no_log = λ place small same. own.2 (in_back nid nids logged (subst (λ k. IsIn k logged) same (in_chain (chain image ckpt) place small)));
       }
 
   pub new_apart : (k j : ℕ × ℕ) (n m : ℕ) → map.get new_nids k ≡ Some n → map.get new_nids j ≡ Some m → n ≡ m → k ≡ j
   unfolding new_nids fresh
-  new_apart k j n m there too same = numbers_apart (map.keys missing) fresh (free_differ used 4 (nid_limit point.extent - 4)) k j n m there too same
+  new_apart k j n m there too same = numbers_apart (map.keys missing) fresh (free_differ used 4 (nid_limit ckpt.geom - 4)) k j n m there too same

@@ -25,52 +25,52 @@ choice inode direct page b e = ap (λ c. cond c (slice_index_or (inode_of inode)
 by_direct : (inode : List ℕ) (direct : Option (List ℕ)) (page : ℕ) → inode_pages ≤ page → address_in inode direct page ≡ word_of direct (direct_slot page)
 by_direct inode direct page high = choice inode direct page false (grind (arith, nat_tests))
 
-module _ (image : Image) (point : Checkpoint) (log : List Logged) (place ino page offset : ℕ) (own : footer_ino (block_in log place) ≡ ino) (direct : direct_of page ≡ Some offset) where
+module _ (image : Image) (ckpt : Checkpoint) (log : List Logged) (place ino page offset : ℕ) (own : footer_ino (block_in log place) ≡ ino) (direct : direct_of page ≡ Some offset) where
   abbrev its_direct : Option (List ℕ) → Option (List ℕ)
-  its_direct before = or_below before (base_direct image point (node image point ino) page)
+  its_direct before = or_below before (base_direct image ckpt (node image ckpt ino) page)
 
   -- the direct node that has the page's address
-  direct_is : marked_direct image point log place page ≡ its_direct (last_before log (place + 1) ino offset)
+  direct_is : marked_direct image ckpt log place page ≡ its_direct (last_before log (place + 1) ino offset)
   direct_is =
-      ap (λ file. or_below (logged_direct log place file (direct_of page)) (base_direct image point (node image point file) page)) own
+      ap (λ file. or_below (logged_direct log place file (direct_of page)) (base_direct image ckpt (node image ckpt file) page)) own
       ∙ ap (λ (o : Option ℕ). its_direct (logged_direct log place ino o)) direct
 
-  address_is : marked_address image point log place page ≡ word_of (its_direct (last_before log (place + 1) ino offset)) (direct_slot page)
+  address_is : marked_address image ckpt log place page ≡ word_of (its_direct (last_before log (place + 1) ino offset)) (direct_slot page)
   address_is =
-      by_direct (block_in log place) (marked_direct image point log place page) page (direct_page page offset direct).0 ∙ ap (λ (d : Option (List ℕ)). word_of d (direct_slot page)) direct_is
+      by_direct (block_in log place) (marked_direct image ckpt log place page) page (direct_page page offset direct).0 ∙ ap (λ (d : Option (List ℕ)). word_of d (direct_slot page)) direct_is
 
   -- in the log
-  pub word_logged : (block : List ℕ) → last_before log (place + 1) ino offset ≡ Some block → node_word block (direct_slot page) ≡ marked_address image point log place page
+  pub word_logged : (block : List ℕ) → last_before log (place + 1) ino offset ≡ Some block → node_word block (direct_slot page) ≡ marked_address image ckpt log place page
   word_logged block there = sym (address_is ∙ ap (λ o. word_of (its_direct o) (direct_slot page)) there)
 
   -- in neither, where the file has no node
-  pub word_nowhere : node image point ino ≡ None → last_before log (place + 1) ino offset ≡ None → marked_address image point log place page ≡ 0
+  pub word_nowhere : node image ckpt ino ≡ None → last_before log (place + 1) ino offset ≡ None → marked_address image ckpt log place page ≡ 0
   word_nowhere absent none =
-      address_is ∙ ap (λ o. word_of (its_direct o) (direct_slot page)) none ∙ ap (λ (o : Option (List ℕ)). word_of (base_direct image point o page) (direct_slot page)) absent
+      address_is ∙ ap (λ o. word_of (its_direct o) (direct_slot page)) none ∙ ap (λ (o : Option (List ℕ)). word_of (base_direct image ckpt o page) (direct_slot page)) absent
 
   -- or in the base
-  module _ (base : Rows) (is_base : IsBase image point base) (old : Places) (stands : IsTreeAt image point base old) (row : Row) (of_base : map.get base ino ≡ Some row) where
-    root : HasRoot image point base is_base old stands ino
-    root = root_of image point base is_base old stands ino row of_base
+  module _ (base : Rows) (is_base : IsBase image ckpt base) (old : Places) (stands : IsTreeAt image ckpt base old) (row : Row) (of_base : map.get base ino ≡ Some row) where
+    root : HasRoot image ckpt base is_base old stands ino
+    root = root_of image ckpt base is_base old stands ino row of_base
 
-    below_root : base_direct image point (node image point ino) page ≡ direct_node image point (block_at image root.root.at) page
-    below_root = ap (λ (o : Option (List ℕ)). base_direct image point o page) root.block
+    below_root : base_direct image ckpt (node image ckpt ino) page ≡ direct_node image ckpt (block_at image root.root.at) page
+    below_root = ap (λ (o : Option (List ℕ)). base_direct image ckpt o page) root.block
 
-    word_there : word_of (base_direct image point (node image point ino) page) (direct_slot page) ≡ page_at old ino page
+    word_there : word_of (base_direct image ckpt (node image ckpt ino) page) (direct_slot page) ≡ page_at old ino page
     word_there =
         ap (λ (o : Option (List ℕ)). word_of o (direct_slot page)) below_root
-        ∙ direct_word image point base is_base old stands ino root.root root.there page (direct_page page offset direct).0 (direct_page page offset direct).1
+        ∙ direct_word image ckpt base is_base old stands ino root.root root.there page (direct_page page offset direct).0 (direct_page page offset direct).1
 
-    pub word_based : (n : NodeAt) → last_before log (place + 1) ino offset ≡ None → map.get old.nodes (ino, offset) ≡ Some n → node_word (block_at image n.at) (direct_slot page) ≡ marked_address image point log place page
+    pub word_based : (n : NodeAt) → last_before log (place + 1) ino offset ≡ None → map.get old.nodes (ino, offset) ≡ Some n → node_word (block_at image n.at) (direct_slot page) ≡ marked_address image ckpt log place page
     word_based n none there =
-        (node_there image point base is_base old stands ino offset n there).here.own.pages page direct ∙ sym word_there
+        (node_there image ckpt base is_base old stands ino offset n there).here.own.pages page direct ∙ sym word_there
         ∙ sym (address_is ∙ ap (λ o. word_of (its_direct o) (direct_slot page)) none)
 
     -- a page with an address has its direct node in the base, where the log hasn't it
-    pub direct_based : last_before log (place + 1) ino offset ≡ None → marked_address image point log place page ≢ 0 → IsSome (map.get old.nodes (ino, offset))
+    pub direct_based : last_before log (place + 1) ino offset ≡ None → marked_address image ckpt log place page ≢ 0 → IsSome (map.get old.nodes (ino, offset))
     direct_based none some = by_page (map.get old.pages (ino, page)) refl
       where
-        address : marked_address image point log place page ≡ page_at old ino page
+        address : marked_address image ckpt log place page ≡ page_at old ino page
         address = address_is ∙ ap (λ o. word_of (its_direct o) (direct_slot page)) none ∙ word_there
 
         by_page : (o : Option ℕ) → map.get old.pages (ino, page) ≡ o → IsSome (map.get old.nodes (ino, offset))

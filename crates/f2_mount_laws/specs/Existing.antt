@@ -41,37 +41,37 @@ pub record MayBeRelaid (base tree : Rows) (relaid : Relaid) : Type 0 where
 
 -- a page of the tree that base and marks make: the base's, where its directory isn't laid out anew, that of a file's last mark, or one of a
 -- directory that is
-pub data IsTreePage (image : Image) (point : Checkpoint) (relaid : Relaid) (ino page at : ℕ) : Type 0 where
-  kept : set.contains relaid.directories ino ≡ false → IsUnmarked image point ino → IsBasePage image point ino page at → IsTreePage image point relaid ino page at
-  marked : (place : ℕ) → IsLastMark image point ino place → page < page_limit → marked_address image point (chain image point) place page ≡ at → at ≢ 0 → IsTreePage image point relaid ino page at
-  laid : map.get relaid.pages (ino, page) ≡ Some at → IsTreePage image point relaid ino page at
+pub data IsTreePage (image : Image) (ckpt : Checkpoint) (relaid : Relaid) (ino page at : ℕ) : Type 0 where
+  kept : set.contains relaid.directories ino ≡ false → IsUnmarked image ckpt ino → IsBasePage image ckpt ino page at → IsTreePage image ckpt relaid ino page at
+  marked : (place : ℕ) → IsLastMark image ckpt ino place → page < page_limit → marked_address image ckpt (chain image ckpt) place page ≡ at → at ≢ 0 → IsTreePage image ckpt relaid ino page at
+  laid : map.get relaid.pages (ino, page) ≡ Some at → IsTreePage image ckpt relaid ino page at
 
 abbrev pub IsSomeTreePage : Image → Checkpoint → Relaid → ℕ × ℕ → Type 0
-IsSomeTreePage image point relaid of = (at : ℕ) × IsTreePage image point relaid of.0 of.1 at
+IsSomeTreePage image ckpt relaid of = (at : ℕ) × IsTreePage image ckpt relaid of.0 of.1 at
 
 -- a node that such a page or a row needs
-pub data IsTreeNode (image : Image) (point : Checkpoint) (tree : Rows) (relaid : Relaid) (at : ℕ × ℕ) : Type 0 where
-  inode : at.1 ≡ 0 → IsSome (map.get tree at.0) → IsTreeNode image point tree relaid at
-  on_way : (page address : ℕ) → IsTreePage image point relaid at.0 page address → Contains (nodes_of_page page) at.1 → IsTreeNode image point tree relaid at
+pub data IsTreeNode (image : Image) (ckpt : Checkpoint) (tree : Rows) (relaid : Relaid) (at : ℕ × ℕ) : Type 0 where
+  inode : at.1 ≡ 0 → IsSome (map.get tree at.0) → IsTreeNode image ckpt tree relaid at
+  on_way : (page address : ℕ) → IsTreePage image ckpt relaid at.0 page address → Contains (nodes_of_page page) at.1 → IsTreeNode image ckpt tree relaid at
 
 -- a third of each zone holds them. An image that is sound doesn't say so of a directory that isn't laid out anew: it counts the blocks that
 -- the directory's names need, and the directory may have more of them
-pub record HasRoomFor (image : Image) (point : Checkpoint) (tree : Rows) (relaid : Relaid) : Type 0 where
-  pub nodes : ¬ (HasMore (ℕ × ℕ) (IsTreeNode image point tree relaid) (node_third point.extent))
-  pub pages : ¬ (HasMore (ℕ × ℕ) (IsSomeTreePage image point relaid) (data_third point.extent))
+pub record HasRoomFor (image : Image) (ckpt : Checkpoint) (tree : Rows) (relaid : Relaid) : Type 0 where
+  pub nodes : ¬ (HasMore (ℕ × ℕ) (IsTreeNode image ckpt tree relaid) (node_third ckpt.geom))
+  pub pages : ¬ (HasMore (ℕ × ℕ) (IsSomeTreePage image ckpt relaid) (data_third ckpt.geom))
 
 -- so the tree of a sound image is taken over. A definition that asks a marked file's inode to be where the base has it would break it
 abbrev pub TreesAreTakenOver : Type 0
 TreesAreTakenOver =
-    (image : Image) (point : Checkpoint) (base : Rows) (marks : List Mark) (relaid : Relaid) →
-    MeansAt image point base marks →
+    (image : Image) (ckpt : Checkpoint) (base : Rows) (marks : List Mark) (relaid : Relaid) →
+    MeansAt image ckpt base marks →
     MayBeRelaid base (rolled base marks) relaid →
-    HasRoomFor image point (rolled base marks) relaid →
-    (places : Places) × ((unwritten : Unwritten) × IsTakenOver image point base marks (rolled base marks) places unwritten)
+    HasRoomFor image ckpt (rolled base marks) relaid →
+    (places : Places) × ((unwritten : Unwritten) × IsTakenOver image ckpt base marks (rolled base marks) places unwritten)
 
 -- where no mark is there, nothing has to be laid out anew. A definition that asks for a mark of each file would break it
 abbrev pub UnmarkedTreesAreTakenOver : Type 0
 UnmarkedTreesAreTakenOver =
-    (image : Image) (point : Checkpoint) (base : Rows) →
-    MeansAt image point base [] →
-    (places : Places) × ((unwritten : Unwritten) × IsTakenOver image point base [] base places unwritten)
+    (image : Image) (ckpt : Checkpoint) (base : Rows) →
+    MeansAt image ckpt base [] →
+    (places : Places) × ((unwritten : Unwritten) × IsTakenOver image ckpt base [] base places unwritten)

@@ -20,10 +20,10 @@ use Rattle.f2_mount_laws.specs.Taken.{IsTakenOver}
 -- would break it: that block may be taken over too
 abbrev pub TakenOverTreesHavePlaces : Type 0
 TakenOverTreesHavePlaces =
-    (image : Image) (point : Checkpoint) (base : Rows) (marks : List Mark) (tree : Rows) (places : Places) (unwritten : Unwritten) →
-    MeansAt image point base marks →
-    IsTakenOver image point base marks tree places unwritten →
-    HasPlaces point.extent tree places
+    (image : Image) (ckpt : Checkpoint) (base : Rows) (marks : List Mark) (tree : Rows) (places : Places) (unwritten : Unwritten) →
+    MeansAt image ckpt base marks →
+    IsTakenOver image ckpt base marks tree places unwritten →
+    HasPlaces ckpt.geom tree places
 
 -- where a disk holds the image and its node log, all of the tree but what is to be written stands there. A definition by which the inode of a
 -- marked file isn't to be written would break it: that inode may name nodes that aren't taken over
@@ -31,9 +31,9 @@ abbrev pub TakenOverTreesAreLive : Type 0
 TakenOverTreesAreLive =
     (lists : Contents) (held : Reference) (base : Rows) (marks : List Mark) (tree : Rows) (places : Places) (unwritten : Unwritten) →
     HoldsImage lists held base marks →
-    All (λ one. HasOne lists held.image one.at) (chain held.image held.point) →
-    IsTakenOver held.image held.point base marks tree places unwritten →
-    IsLiveAt lists held.point.extent tree places unwritten
+    All (λ one. HasOne lists held.image one.at) (chain held.image held.ckpt) →
+    IsTakenOver held.image held.ckpt base marks tree places unwritten →
+    IsLiveAt lists held.ckpt.geom tree places unwritten
 
 -- and the tree is a proper one, as long as no checkpoint is pending; a base that is rolled by other marks than the image's needn't be
 abbrev pub RolledTreesOfMountsAreProper : Type 0
@@ -42,4 +42,4 @@ RolledTreesOfMountsAreProper =
     KeepsPacks lists layout state →
     KeepsImage lists layout state →
     layout.pending ≡ None →
-    IsProperTree (image_limits layout.base.point.extent) (rolled state.base state.marks)
+    IsProperTree (image_limits layout.base.ckpt.geom) (rolled state.base state.marks)

@@ -17,7 +17,7 @@ pub record GoesOn (lists : Contents) (layout : Layout) (state : State) (places :
   pub packs : KeepsPacks lists layout state
   pub image : KeepsImage lists layout state
   pub none_pending : layout.pending ≡ None
-  pub taken : IsTakenOver layout.base.image layout.base.point state.base state.marks state.live places unwritten
+  pub taken : IsTakenOver layout.base.image layout.base.ckpt state.base state.marks state.live places unwritten
 
 -- so a checkpoint of it may begin: what `f2_checkpoint_laws` asks of a disk that a checkpoint is written to. A definition whose tree isn't that
 -- of base and marks would break it: such a tree needn't be proper

@@ -75,10 +75,10 @@ same_bit t block other = at (fits_journal t) other
   where
     at : (fits : Bool) → (not fits && is_pending_block t block) ≡ false → is_second_copy (cond fits t.bitmap (flipped t.bitmap (pending_blocks t))) block ≡ is_second_copy t.bitmap block
     at true h = refl
-    at false h = flips_other (is_pending_block t) (range_with_len 0 t.extent.nat) t.bitmap block h
+    at false h = flips_other (is_pending_block t) (range_with_len 0 t.geom.nat) t.bitmap block h
 
 same_copy_after : (t : Table) (lists : Contents) (block : ℕ) → is_written t block ≡ false → copy_in (checkpointed t) lists block ≡ copy_in t lists block
-same_copy_after t lists block other = ap (λ second. last_of (list_at lists (nat_address t.extent block second))) (same_bit t block other)
+same_copy_after t lists block other = ap (λ second. last_of (list_at lists (nat_address t.geom block second))) (same_bit t block other)
 
 -- ---- the journal
 
@@ -103,12 +103,12 @@ once_after t n within once = at (fits_journal t)
 -- ---- what is held
 
 -- what is held of a block after the checkpoint
-pub held_after_at : (t : Table) (block : ℕ) → block < t.extent.nat → held_block (checkpointed t) block ≡ cond (is_written t block) (held_with_pending t block) (held_block t block)
+pub held_after_at : (t : Table) (block : ℕ) → block < t.geom.nat → held_block (checkpointed t) block ≡ cond (is_written t block) (held_with_pending t block) (held_block t block)
 held_after_at t block within = at (fits_journal t)
   where
-    at : (fits : Bool) → get_or (cond fits t.held (list_map (held_then t) (range_with_len 0 t.extent.nat))) block None ≡ cond (not fits && is_pending_block t block) (held_with_pending t block) (held_block t block)
+    at : (fits : Bool) → get_or (cond fits t.held (list_map (held_then t) (range_with_len 0 t.geom.nat))) block None ≡ cond (not fits && is_pending_block t block) (held_with_pending t block) (held_block t block)
     at true = refl
-    at false = get_or-map-range_with_len (held_then t) 0 t.extent.nat block block None within (omega arith)
+    at false = get_or-map-range_with_len (held_then t) 0 t.geom.nat block block None within (omega arith)
 
 -- the entry of a nid in its block with all its pending entries
 tells_nid : (t : Table) (nid : ℕ) (content : List ℕ) → TellsPending t (nat_block_of nid) content → entry_in (with_pending t.dirty t.journal (nat_block_of nid) content) nid ≡ unwrap_or (pending t.dirty t.journal nid) (entry_in content nid)
@@ -119,10 +119,10 @@ tells_nid t nid content tells =
 -- ---- the map
 
 module _ (t : Table)
-    (held : (block : ℕ) → block < t.extent.nat → IsTrue (is_written t block) → IsSome (held_block t block))
-    (tells : (block : ℕ) (content : List ℕ) → block < t.extent.nat → IsTrue (is_written t block) → held_block t block ≡ Some content → TellsPending t block content) where
+    (held : (block : ℕ) → block < t.geom.nat → IsTrue (is_written t block) → IsSome (held_block t block))
+    (tells : (block : ℕ) (content : List ℕ) → block < t.geom.nat → IsTrue (is_written t block) → held_block t block ≡ Some content → TellsPending t block content) where
   -- what is known of a nid in a block that is written: its pending entry, or that of its block
-  known_written : (nid : ℕ) → nat_block_of nid < t.extent.nat → IsTrue (is_written t (nat_block_of nid)) → (o : Option (List ℕ)) → held_block t (nat_block_of nid) ≡ o → IsSome o
+  known_written : (nid : ℕ) → nat_block_of nid < t.geom.nat → IsTrue (is_written t (nat_block_of nid)) → (o : Option (List ℕ)) → held_block t (nat_block_of nid) ≡ o → IsSome o
       → option_map (λ content. entry_in content nid) (option_map (with_pending t.dirty t.journal (nat_block_of nid)) o) ≡ option_or (pending t.dirty t.journal nid) (option_map (λ content. entry_in content nid) o)
   known_written nid within written None here there = let wrong : ◌≡◌ false true = there in cc
   known_written nid within written (Some content) here there =
@@ -133,10 +133,10 @@ module _ (t : Table)
       either (Some x) e = refl
 
   -- the same entries are known as before
-  pub known_after : (nid : ℕ) → nid < 455 * t.extent.nat → known (checkpointed t) nid ≡ known t nid
+  pub known_after : (nid : ℕ) → nid < 455 * t.geom.nat → known (checkpointed t) nid ≡ known t nid
   known_after nid below =
       let block = nat_block_of nid in
-      let within : block < t.extent.nat = omega arith in
+      let within : block < t.geom.nat = omega arith in
       ap (λ o. option_or (pending map.empty (journal_after t) nid) (option_map (λ content. entry_in content nid) o)) (held_after_at t block within)
       ∙ at (fits_journal t) (is_pending_block t block) refl refl
     where
@@ -156,7 +156,7 @@ module _ (t : Table)
           ∙ ap (λ o. option_or o (option_map (λ content. entry_in content nid) (held_block t (nat_block_of nid)))) (nothing_pending nid ∙ sym (not_pending t nid pends))
 
   -- a block of which nothing is held isn't written
-  unwritten : (block : ℕ) → block < t.extent.nat → held_block t block ≡ None → is_written t block ≡ false
+  unwritten : (block : ℕ) → block < t.geom.nat → held_block t block ≡ None → is_written t block ≡ false
   unwritten block within none = at (is_written t block) refl
     where
       at : (b : Bool) → is_written t block ≡ b → is_written t block ≡ false
@@ -164,11 +164,11 @@ module _ (t : Table)
       at false is = is
 
   module _ (before after : Contents) (wrote : HasWritten t before after) where
-    copy_other : (block : ℕ) → block < t.extent.nat → is_written t block ≡ false → copy_in (checkpointed t) after block ≡ copy_in t before block
+    copy_other : (block : ℕ) → block < t.geom.nat → is_written t block ≡ false → copy_in (checkpointed t) after block ≡ copy_in t before block
     copy_other block within other = same_copy_after t after block other ∙ wrote.others block within other
 
     -- the map stays
-    pub entry_after : (nid : ℕ) → nid < 455 * t.extent.nat → entry_at (checkpointed t) after nid ≡ entry_at t before nid
+    pub entry_after : (nid : ℕ) → nid < 455 * t.geom.nat → entry_at (checkpointed t) after nid ≡ entry_at t before nid
     entry_after nid below =
         ap (λ o. unwrap_or o (entry_in (copy_in (checkpointed t) after (nat_block_of nid)) nid)) (known_after nid below)
         ∙ at (pending t.dirty t.journal nid) (held_block t (nat_block_of nid)) refl
@@ -181,7 +181,7 @@ module _ (t : Table)
         at None None here = ap (λ content. entry_in content nid) (copy_other (nat_block_of nid) (omega arith) (unwritten (nat_block_of nid) (omega arith) here))
 
     module _ (kept : IsKept t before) where
-      held_kept : (block : ℕ) (content : List ℕ) → block < t.extent.nat → held_block (checkpointed t) block ≡ Some content → content ≡ copy_in (checkpointed t) after block
+      held_kept : (block : ℕ) (content : List ℕ) → block < t.geom.nat → held_block (checkpointed t) block ≡ Some content → content ≡ copy_in (checkpointed t) after block
       held_kept block content within found = at (is_written t block) (held_block t block) refl refl (sym (held_after_at t block within) ∙ found)
         where
           at : (written : Bool) (o : Option (List ℕ)) → is_written t block ≡ written → held_block t block ≡ o
@@ -194,13 +194,13 @@ module _ (t : Table)
           at false o is here there =
               kept.held block content (sym (ap (λ b. cond b (held_with_pending t block) (held_block t block)) is) ∙ there) ∙ sym (copy_other block within is)
 
-      clean_kept : (nid : ℕ) (entry : NatEntry) → nid < 455 * t.extent.nat → pending t.dirty t.journal nid ≡ None → map.get t.clean nid ≡ Some entry → entry ≡ entry_in (copy_in (checkpointed t) after (nat_block_of nid)) nid
+      clean_kept : (nid : ℕ) (entry : NatEntry) → nid < 455 * t.geom.nat → pending t.dirty t.journal nid ≡ None → map.get t.clean nid ≡ Some entry → entry ≡ entry_in (copy_in (checkpointed t) after (nat_block_of nid)) nid
       clean_kept nid entry below apart found = at (is_written t (nat_block_of nid)) (held_block t (nat_block_of nid)) refl refl
         where
           at : (written : Bool) (o : Option (List ℕ)) → is_written t (nat_block_of nid) ≡ written → held_block t (nat_block_of nid) ≡ o → entry ≡ entry_in (copy_in (checkpointed t) after (nat_block_of nid)) nid
           at true None is here = let wrong : ◌≡◌ false true = sym (ap is_some here) ∙ held (nat_block_of nid) (omega arith) is in cc
           at true (Some old) is here =
-              let within : nat_block_of nid < t.extent.nat = omega arith in
+              let within : nat_block_of nid < t.geom.nat = omega arith in
               kept.clean nid entry found
               ∙ ap (λ content. entry_in content nid) (sym (kept.held (nat_block_of nid) old here))
               ∙ sym (tells_nid t nid old (tells (nat_block_of nid) old within is here) ∙ ap (λ o. unwrap_or o (entry_in old nid)) apart)
@@ -208,7 +208,7 @@ module _ (t : Table)
           at false o is here = kept.clean nid entry found ∙ ap (λ content. entry_in content nid) (sym (copy_other (nat_block_of nid) (omega arith) is))
 
       -- what is kept stays what the copies that count are
-      pub kept_after : length (held_after t) ≡ t.extent.nat → ((nid : ℕ) → IsSome (map.get t.clean nid) → nid < 455 * t.extent.nat) → ((nid : ℕ) → IsSome (map.get t.clean nid) → pending t.dirty t.journal nid ≡ None) → IsKept (checkpointed t) after
+      pub kept_after : length (held_after t) ≡ t.geom.nat → ((nid : ℕ) → IsSome (map.get t.clean nid) → nid < 455 * t.geom.nat) → ((nid : ℕ) → IsSome (map.get t.clean nid) → pending t.dirty t.journal nid ≡ None) → IsKept (checkpointed t) after
       kept_after long within apart =
           record {
             held = λ block content found. held_kept block content (let there = some_within (held_after t) block (ap is_some found) in omega (arith, there, long)) found;

@@ -60,8 +60,8 @@ all_tell_more t n before here k content h pending held =
     below_more (λ (j : ℕ). (content : List ℕ) → IsTrue (is_pending_block t j) → held_block t j ≡ Some content → TellsPending t j content) n (λ j below content. before j content below) here k h content pending held
 
 -- all blocks were reached
-pub reaches_all : (t s : Table) → ((k : ℕ) → k < t.extent.nat → held_block s k ≡ held_then t k) → length s.held ≡ t.extent.nat → s.held ≡ list_map (held_then t) (range_with_len 0 t.extent.nat)
+pub reaches_all : (t s : Table) → ((k : ℕ) → k < t.geom.nat → held_block s k ≡ held_then t k) → length s.held ≡ t.geom.nat → s.held ≡ list_map (held_then t) (range_with_len 0 t.geom.nat)
 reaches_all t s done long =
-    let n = t.extent.nat in
+    let n = t.geom.nat in
     ext_get_or None s.held (list_map (held_then t) (range_with_len 0 n)) (long ∙ sym (length-map-range_with_len (held_then t) 0 n))
     (λ k h. done k (omega (arith, h, long)) ∙ sym (get_or-map-range_with_len (held_then t) 0 n k k None (omega (arith, h, long)) (omega arith)))

@@ -32,18 +32,18 @@ entry_read t None nid e none read = tt
 entry_read t (Some lists) nid e none read = read ∙ sym (ap (λ o. unwrap_or o (entry_in (copy_in t lists (nat_block_of nid)) nid)) none)
 
 -- the same copies count
-same_copy : (t t' : Table) (lists : Contents) (block : ℕ) → t'.extent ≡ t.extent → t'.bitmap ≡ t.bitmap → copy_in t' lists block ≡ copy_in t lists block
-same_copy t t' lists block extent bitmap = λ i. last_of (list_at lists (nat_address (extent i) block (is_second_copy (bitmap i) block)))
+same_copy : (t t' : Table) (lists : Contents) (block : ℕ) → t'.geom ≡ t.geom → t'.bitmap ≡ t.bitmap → copy_in t' lists block ≡ copy_in t lists block
+same_copy t t' lists block geom bitmap = λ i. last_of (list_at lists (nat_address (geom i) block (is_second_copy (bitmap i) block)))
 
 -- one clean entry more, which was read
-pub kept_more : (t t' : Table) (told : Option Contents) (nid : ℕ) (e : NatEntry) → t'.extent ≡ t.extent → t'.bitmap ≡ t.bitmap → t'.held ≡ t.held
+pub kept_more : (t t' : Table) (told : Option Contents) (nid : ℕ) (e : NatEntry) → t'.geom ≡ t.geom → t'.bitmap ≡ t.bitmap → t'.held ≡ t.held
     → IfSome told (IsKept t) → IfSome told (λ lists. e ≡ entry_in (copy_in t lists (nat_block_of nid)) nid) → MayAdd nid e t.clean t'.clean → IfSome told (IsKept t')
-kept_more t t' None nid e extent bitmap held kept read more = tt
-kept_more t t' (Some lists) nid e extent bitmap held kept read more =
+kept_more t t' None nid e geom bitmap held kept read more = tt
+kept_more t t' (Some lists) nid e geom bitmap held kept read more =
     record {
-      held = λ block content found. kept.held block content (ap (λ h. slice_index_or h block None) (sym held) ∙ found) ∙ sym (same_copy t t' lists block extent bitmap);
+      held = λ block content found. kept.held block content (ap (λ h. slice_index_or h block None) (sym held) ∙ found) ∙ sym (same_copy t t' lists block geom bitmap);
       clean = λ other entry found.
-          let here = ap (λ block. entry_in block other) (sym (same_copy t t' lists (nat_block_of other) extent bitmap)) in
+          let here = ap (λ block. entry_in block other) (sym (same_copy t t' lists (nat_block_of other) geom bitmap)) in
           elim (more other entry found) [
             | inl before ↦ kept.clean other entry before ∙ here
             | inr new ↦ new.1 ∙ read ∙ ap (λ n. entry_in (copy_in t lists (nat_block_of n)) n) (sym new.0) ∙ here
@@ -107,13 +107,13 @@ below_more limit old new k v low more below nid there = at (map.get new nid) ref
 -- ---- a block that is held
 
 -- a block more that was read
-pub kept_held : (t t' : Table) (told : Option Contents) (block : ℕ) (content : List ℕ) → block < length t.held → t'.extent ≡ t.extent → t'.bitmap ≡ t.bitmap → t'.clean ≡ t.clean → t'.held ≡ set t.held block (Some content)
+pub kept_held : (t t' : Table) (told : Option Contents) (block : ℕ) (content : List ℕ) → block < length t.held → t'.geom ≡ t.geom → t'.bitmap ≡ t.bitmap → t'.clean ≡ t.clean → t'.held ≡ set t.held block (Some content)
     → IfSome told (IsKept t) → IfSome told (λ lists. content ≡ copy_in t lists block) → IfSome told (IsKept t')
-kept_held t t' None block content within extent bitmap clean held kept read = tt
-kept_held t t' (Some lists) block content within extent bitmap clean held kept read =
+kept_held t t' None block content within geom bitmap clean held kept read = tt
+kept_held t t' (Some lists) block content within geom bitmap clean held kept read =
     record {
       held = λ other found there.
-          let here = sym (same_copy t t' lists other extent bitmap) in
+          let here = sym (same_copy t t' lists other geom bitmap) in
           elim (cases_eq other block) [
             | inl one ↦
                 let stands : ◌≡◌ {A = Option (List ℕ)} (Some content) (Some found) = sym (get_or-set_same t.held block (Some content) None within) ∙ ap (λ b. get_or (set t.held block (Some content)) b None) (sym one) ∙ ap (λ h. get_or h other None) (sym held) ∙ there in
@@ -121,7 +121,7 @@ kept_held t t' (Some lists) block content within extent bitmap clean held kept r
                 same ∙ read ∙ ap (copy_in t lists) (sym one) ∙ here
             | inr apart ↦ kept.held other found (sym (get_or-set_other t.held block other (Some content) None apart) ∙ ap (λ h. get_or h other None) (sym held) ∙ there) ∙ here
           ];
-      clean = λ nid entry found. kept.clean nid entry (ap (λ m. map.get m nid) (sym clean) ∙ found) ∙ ap (λ block. entry_in block nid) (sym (same_copy t t' lists (nat_block_of nid) extent bitmap));
+      clean = λ nid entry found. kept.clean nid entry (ap (λ m. map.get m nid) (sym clean) ∙ found) ∙ ap (λ block. entry_in block nid) (sym (same_copy t t' lists (nat_block_of nid) geom bitmap));
     }
 
 -- what was read at the copy's address
@@ -144,13 +144,13 @@ held_itself items block b old is within =
 -- ---- no read in between
 
 -- no clean entry more, and the same copies
-pub kept_fewer : (t t' : Table) (told : Option Contents) → t'.extent ≡ t.extent → t'.bitmap ≡ t.bitmap → t'.held ≡ t.held → ((nid : ℕ) (e : NatEntry) → map.get t'.clean nid ≡ Some e → map.get t.clean nid ≡ Some e)
+pub kept_fewer : (t t' : Table) (told : Option Contents) → t'.geom ≡ t.geom → t'.bitmap ≡ t.bitmap → t'.held ≡ t.held → ((nid : ℕ) (e : NatEntry) → map.get t'.clean nid ≡ Some e → map.get t.clean nid ≡ Some e)
     → IfSome told (IsKept t) → IfSome told (IsKept t')
-kept_fewer t t' None extent bitmap held fewer kept = tt
-kept_fewer t t' (Some lists) extent bitmap held fewer kept =
+kept_fewer t t' None geom bitmap held fewer kept = tt
+kept_fewer t t' (Some lists) geom bitmap held fewer kept =
     record {
-      held = λ block content found. kept.held block content (ap (λ h. slice_index_or h block None) (sym held) ∙ found) ∙ sym (same_copy t t' lists block extent bitmap);
-      clean = λ nid entry found. kept.clean nid entry (fewer nid entry found) ∙ ap (λ block. entry_in block nid) (sym (same_copy t t' lists (nat_block_of nid) extent bitmap));
+      held = λ block content found. kept.held block content (ap (λ h. slice_index_or h block None) (sym held) ∙ found) ∙ sym (same_copy t t' lists block geom bitmap);
+      clean = λ nid entry found. kept.clean nid entry (fewer nid entry found) ∙ ap (λ block. entry_in block nid) (sym (same_copy t t' lists (nat_block_of nid) geom bitmap));
     }
 
 pub fewer_without : (old new : Entries) (k : ℕ) → new ≡ map.remove old k → (nid : ℕ) (e : NatEntry) → map.get new nid ≡ Some e → map.get old nid ≡ Some e

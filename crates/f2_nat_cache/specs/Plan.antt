@@ -46,7 +46,7 @@ merged_below dirty journal n = renewed dirty journal ++ new_below dirty journal 
 
 -- each block that has dirty entries, and how many, by rising block
 abbrev pub dirty_sets : Table → List (ℕ × ℕ)
-dirty_sets table = filter (λ set. nat_lt 0 set.1) (list_map (λ block. (block, count_in table.dirty block)) (range_with_len 0 table.extent.nat))
+dirty_sets table = filter (λ set. nat_lt 0 set.1) (list_map (λ block. (block, count_in table.dirty block)) (range_with_len 0 table.geom.nat))
 
 -- the entries of a journal with all changes: the dirty ones, and those of the journal's other nids
 abbrev pub needed : Table → ℕ
@@ -62,7 +62,7 @@ is_pending_block table block = nat_lt 0 (count_in table.dirty block) || list_any
 
 -- the blocks with a pending entry, rising
 abbrev pub pending_blocks : Table → List ℕ
-pending_blocks table = filter (is_pending_block table) (range_with_len 0 table.extent.nat)
+pending_blocks table = filter (is_pending_block table) (range_with_len 0 table.geom.nat)
 
 -- how many entries go into the journal, and how many blocks are written
 abbrev pub plan_of : Table → CpNat
@@ -94,7 +94,7 @@ held_then table block = if is_pending_block table block then held_with_pending t
 
 -- what is held after the checkpoint, block by block: of the blocks that it writes what it wrote
 abbrev pub held_after : Table → List (Option (List ℕ))
-held_after table = if fits_journal table then table.held else list_map (held_then table) (range_with_len 0 table.extent.nat)
+held_after table = if fits_journal table then table.held else list_map (held_then table) (range_with_len 0 table.geom.nat)
 
 -- THE TABLE AFTER THE CHECKPOINT: nothing is dirty, and bitmap, journal and held blocks are what it wrote
 abbrev pub checkpointed : Table → Table
@@ -103,6 +103,6 @@ checkpointed table = record table { bitmap = bitmap_after table; journal = journ
 -- What the checkpoint does to the contents of a disk: what is held of each block that it writes stands, with the block's
 -- pending entries, in the copy that counts from then on, and of each other block the copy that counts is as before.
 pub record HasWritten (table : Table) (before after : Contents) : Type 0 where
-  pub written : (block : ℕ) (content : List ℕ) → block < table.extent.nat → IsTrue (is_written table block) → held_block table block ≡ Some content
+  pub written : (block : ℕ) (content : List ℕ) → block < table.geom.nat → IsTrue (is_written table block) → held_block table block ≡ Some content
       → copy_in (checkpointed table) after block ≡ with_pending table.dirty table.journal block content
-  pub others : (block : ℕ) → block < table.extent.nat → is_written table block ≡ false → copy_in table after block ≡ copy_in table before block
+  pub others : (block : ℕ) → block < table.geom.nat → is_written table block ≡ false → copy_in table after block ≡ copy_in table before block

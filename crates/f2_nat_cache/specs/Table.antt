@@ -5,7 +5,7 @@ use Rattle.std.specs.Option.{unwrap_or, option_or, option_map}
 use Rattle.std.specs.Coded.{Coded, code_by, coded×, coded_ℕ, coded_list, coded_option}
 use Rattle.std.specs.FinMap as map
 use Rattle.f2_disk.specs.Contents.{Contents, list_at, last_of}
-use Rattle.f2_format.specs.Geometry.{ENTRIES_A_NAT_BLOCK, Extent, IsGeometry, nat_address, nid_limit}
+use Rattle.f2_format.specs.Geometry.{ENTRIES_A_NAT_BLOCK, ImageGeometry, IsGeometry, nat_address, nid_limit}
 use Rattle.f2_format.specs.Nat.{nat_entry, with_nat_entry, nat_block_of, nat_place_of, is_second_copy}
 use Rattle.f2_format.specs.Journal.{JournalList, journal_find}
 use Rattle.f2_nat_block.specs.declared.entries.NatEntry.{NatEntry}
@@ -16,7 +16,7 @@ use Rattle.f2_nat_cache.specs.Entries.{Entries, entries_code}
 -- then. `held` has, block by block, the copy that counts, where it is held. `clean` are at most `room` entries of other
 -- blocks. So many entries more as `spare` says may become dirty without memory.
 pub record Table : Type 0 where
-  pub extent : Extent
+  pub geom : ImageGeometry
   pub bitmap : List ℕ
   pub journal : JournalList
   pub dirty : Entries
@@ -26,8 +26,8 @@ pub record Table : Type 0 where
   pub room : ℕ
 
 -- it is stored as these fields
-abbrev pub extent_code : Coded Extent
-extent_code = code_by (ℕ × ℕ) (coded× coded_ℕ coded_ℕ) (λ e. (e.blocks, e.nat)) (λ p. record { blocks = p.0; nat = p.1 }) (λ _. refl)
+abbrev pub geom_code : Coded ImageGeometry
+geom_code = code_by (ℕ × ℕ) (coded× coded_ℕ coded_ℕ) (λ e. (e.blocks, e.nat)) (λ p. record { blocks = p.0; nat = p.1 }) (λ _. refl)
 
 abbrev pub journal_code : Coded JournalList
 journal_code = coded_list (coded× coded_ℕ (coded× coded_ℕ coded_ℕ))
@@ -37,10 +37,10 @@ held_code = coded_list (coded_option (coded_list coded_ℕ))
 
 abbrev pub table_code : Coded Table
 table_code =
-    code_by (Extent × (List ℕ × (JournalList × (Entries × (List (Option (List ℕ)) × (Entries × (ℕ × ℕ)))))))
-    (coded× extent_code (coded× (coded_list coded_ℕ) (coded× journal_code (coded× entries_code (coded× held_code (coded× entries_code (coded× coded_ℕ coded_ℕ)))))))
-    (λ t. (t.extent, (t.bitmap, (t.journal, (t.dirty, (t.held, (t.clean, (t.spare, t.room))))))))
-    (λ q. record { extent = q.0; bitmap = q.1.0; journal = q.1.1.0; dirty = q.1.1.1.0; held = q.1.1.1.1.0; clean = q.1.1.1.1.1.0; spare = q.1.1.1.1.1.1.0; room = q.1.1.1.1.1.1.1 })
+    code_by (ImageGeometry × (List ℕ × (JournalList × (Entries × (List (Option (List ℕ)) × (Entries × (ℕ × ℕ)))))))
+    (coded× geom_code (coded× (coded_list coded_ℕ) (coded× journal_code (coded× entries_code (coded× held_code (coded× entries_code (coded× coded_ℕ coded_ℕ)))))))
+    (λ t. (t.geom, (t.bitmap, (t.journal, (t.dirty, (t.held, (t.clean, (t.spare, t.room))))))))
+    (λ q. record { geom = q.0; bitmap = q.1.0; journal = q.1.1.0; dirty = q.1.1.1.0; held = q.1.1.1.1.0; clean = q.1.1.1.1.1.0; spare = q.1.1.1.1.1.1.0; room = q.1.1.1.1.1.1.1 })
     (λ _. refl)
 
 -- what is held of a block
@@ -61,7 +61,7 @@ known table nid = option_or (pending table.dirty table.journal nid) (option_map 
 
 -- where the copy of a block that counts stands
 abbrev pub copy_address : Table → ℕ → ℕ
-copy_address table block = nat_address table.extent block (is_second_copy table.bitmap block)
+copy_address table block = nat_address table.geom block (is_second_copy table.bitmap block)
 
 -- the copy of a block that counts, in the last contents of a disk
 abbrev pub copy_in : Table → Contents → ℕ → List ℕ
@@ -79,12 +79,12 @@ pub record IsKept (table : Table) (lists : Contents) : Type 0 where
 -- What the parts of a table keep: dirty entries and held blocks are counted by the same sizes, no dirty and no clean
 -- entry is past the table, and no clean entry is of a nid with a pending one.
 pub record IsTable (table : Table) (nat : ℕ) : Type 0 where
-  pub sizes : nat ≡ table.extent.nat
-  pub geometry : IsGeometry table.extent
-  pub blocks : length table.held ≡ table.extent.nat
-  pub within : (nid : ℕ) → IsSome (map.get table.dirty nid) → nid < nid_limit table.extent
+  pub sizes : nat ≡ table.geom.nat
+  pub geometry : IsGeometry table.geom
+  pub blocks : length table.held ≡ table.geom.nat
+  pub within : (nid : ℕ) → IsSome (map.get table.dirty nid) → nid < nid_limit table.geom
   pub bounded : map.len table.clean ≤ table.room
-  pub clean_within : (nid : ℕ) → IsSome (map.get table.clean nid) → nid < nid_limit table.extent
+  pub clean_within : (nid : ℕ) → IsSome (map.get table.clean nid) → nid < nid_limit table.geom
   pub apart : (nid : ℕ) → IsSome (map.get table.clean nid) → pending table.dirty table.journal nid ≡ None
 
 -- the nid of a place of a block

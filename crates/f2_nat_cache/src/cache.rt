@@ -54,9 +54,9 @@ impl Model for Cache {
 
     ghost coded = { table_code };
 
-    ghost view = { λ c. record { extent = c.geometry; bitmap = c.bitmap; journal = c.journal; dirty = c.dirty.entries; held = list_map (option_map (λ b. b.value)) c.held.items; clean = c.clean.entries; spare = c.dirty.spare; room = c.clean.room } };
+    ghost view = { λ c. record { geom = c.geometry; bitmap = c.bitmap; journal = c.journal; dirty = c.dirty.entries; held = list_map (option_map (λ b. b.value)) c.held.items; clean = c.clean.entries; spare = c.dirty.spare; room = c.clean.room } };
 
-    ghost invariant = { λ c. IsTable (record { extent = c.geometry; bitmap = c.bitmap; journal = c.journal; dirty = c.dirty.entries; held = list_map (option_map (λ b. b.value)) c.held.items; clean = c.clean.entries; spare = c.dirty.spare; room = c.clean.room }) c.dirty.nat };
+    ghost invariant = { λ c. IsTable (record { geom = c.geometry; bitmap = c.bitmap; journal = c.journal; dirty = c.dirty.entries; held = list_map (option_map (λ b. b.value)) c.held.items; clean = c.clean.entries; spare = c.dirty.spare; room = c.clean.room }) c.dirty.nat };
 }
 
 impl Cache {
@@ -70,7 +70,7 @@ impl Cache {
     ) -> Result<Cache, AllocError>
         requires room { 1 ≤ room }
         requires once { EachOnce journal }
-        ensures made { IfOk result (λ cache. cache ≡ record { extent = g.now; bitmap = bitmap; journal = journal; dirty = map.empty; held = replicate g.now.nat None; clean = map.empty; spare = 0; room = room }) }
+        ensures made { IfOk result (λ cache. cache ≡ record { geom = g.now; bitmap = bitmap; journal = journal; dirty = map.empty; held = replicate g.now.nat None; clean = map.empty; spare = 0; room = room }) }
         ensures still_kept { IfOk result (λ cache. (told : Option Contents) → IfSome told (IsKept cache)) }
     {
         let nat = g.nat();
@@ -93,8 +93,8 @@ impl Cache {
     ///
     /// An error leaves the cache as it was.
     pub fn get<D: Disk>(&mut self, disk: &mut D, nid: u32) -> Result<NatEntry, ReadFault>
-        requires nid { nid < nid_limit self.old.extent }
-        requires device { self.old.extent.blocks ≤ (D.meter disk.old).blocks }
+        requires nid { nid < nid_limit self.old.geom }
+        requires device { self.old.geom.blocks ≤ (D.meter disk.old).blocks }
         requires kept { IfSome (D.contents disk.old) (IsKept self.old) }
 
         ensures entry { IfOk result (λ e. IfSome (D.contents disk.old) (λ lists. e ≡ entry_at self.old lists nid)) }
@@ -129,7 +129,7 @@ impl Cache {
     ///
     /// An error leaves the cache as it was.
     pub fn put(&mut self, nid: u32, e: NatEntry) -> Result<(), AllocError>
-        requires { nid < nid_limit self.old.extent }
+        requires { nid < nid_limit self.old.geom }
         ensures ok { OnOk result (self.new ≡ record self.old { dirty = map.insert self.old.dirty nid e; clean = map.remove self.old.clean nid }) }
         ensures still_kept { OnOk result ((told : Option Contents) → IfSome told (IsKept self.old) → IfSome told (IsKept self.new)) }
         ensures err { OnErr result (self.new ≡ self.old) }
@@ -143,8 +143,8 @@ impl Cache {
     ///
     /// An error leaves the cache as it was.
     pub fn hold<D: Disk>(&mut self, disk: &mut D, block: u32) -> Result<(), ReadFault>
-        requires block { block < self.old.extent.nat }
-        requires device { self.old.extent.blocks ≤ (D.meter disk.old).blocks }
+        requires block { block < self.old.geom.nat }
+        requires device { self.old.geom.blocks ≤ (D.meter disk.old).blocks }
         requires kept { IfSome (D.contents disk.old) (IsKept self.old) }
 
         ensures held { OnOk result (IsSome (held_block self.new block)) }
@@ -181,7 +181,7 @@ impl Cache {
 
     /// Sets the entry of a nid as [`Cache::put`] does, with memory that [`Cache::room`] took for one entry.
     pub fn put_ready(&mut self, nid: u32, e: NatEntry)
-        requires nid { nid < nid_limit self.old.extent }
+        requires nid { nid < nid_limit self.old.geom }
         requires ready { 0 < self.old.spare }
         ensures put { self.new ≡ record self.old { dirty = map.insert self.old.dirty nid e; clean = map.remove self.old.clean nid; spare = self.old.spare - 1 } }
         ensures still_kept { (told : Option Contents) → IfSome told (IsKept self.old) → IfSome told (IsKept self.new) }
@@ -279,7 +279,7 @@ impl Cache {
 
     /// Whether a block has a dirty entry or one in the journal.
     pub(crate) fn is_pending(&self, block: u32) -> bool
-        requires { block < self.now.extent.nat }
+        requires { block < self.now.geom.nat }
         ensures { result ≡ is_pending_block self.now block }
     {
         self.dirty.count(block) > 0 || self.journal.has_block(block)
@@ -300,7 +300,7 @@ impl Cache {
 
     /// The entry of a nid, where neither the disk nor a clean entry is needed to tell it.
     fn known(&self, nid: u32) -> Option<NatEntry>
-        requires { nid < nid_limit self.now.extent }
+        requires { nid < nid_limit self.now.geom }
         ensures { result ≡ known_of self.now nid }
     {
         if let Some(e) = pending(&self.dirty, &self.journal, nid) {

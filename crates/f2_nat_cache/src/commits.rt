@@ -16,12 +16,12 @@ impl Cache {
     /// What is held of a block that it wrote is what [`Cache::block`] gave. Clean entries stay as they are, and so does
     /// the memory that [`Cache::room`] took. This takes no memory.
     pub fn committed(&mut self)
-        requires { (block : ℕ) → block < self.old.extent.nat → IsTrue (is_written self.old block) → IsSome (held_block self.old block) }
+        requires { (block : ℕ) → block < self.old.geom.nat → IsTrue (is_written self.old block) → IsSome (held_block self.old block) }
         ensures done { self.new ≡ checkpointed self.old }
 
         // The map stays, where the disk has what the checkpoint wrote.
-        ensures known { (nid : ℕ) → nid < nid_limit self.old.extent → known self.new nid ≡ known self.old nid }
-        ensures entries { (before after : Contents) → HasWritten self.old before after → (nid : ℕ) → nid < nid_limit self.old.extent → entry_at self.new after nid ≡ entry_at self.old before nid }
+        ensures known { (nid : ℕ) → nid < nid_limit self.old.geom → known self.new nid ≡ known self.old nid }
+        ensures entries { (before after : Contents) → HasWritten self.old before after → (nid : ℕ) → nid < nid_limit self.old.geom → entry_at self.new after nid ≡ entry_at self.old before nid }
         ensures still_kept { (before after : Contents) → HasWritten self.old before after → IsKept self.old before → IsKept self.new after }
     {
         let journal = self.journal();
@@ -34,9 +34,9 @@ impl Cache {
 
     /// Puts the pending entries of each block that a checkpoint writes into what is held of it.
     fn write_held(&mut self)
-        requires { (block : ℕ) → block < self.old.extent.nat → IsTrue (is_written self.old block) → IsSome (held_block self.old block) }
+        requires { (block : ℕ) → block < self.old.geom.nat → IsTrue (is_written self.old block) → IsSome (held_block self.old block) }
         ensures held { self.new ≡ record self.old { held = held_after self.old } }
-        ensures told { (block : ℕ) (content : List ℕ) → block < self.old.extent.nat → IsTrue (is_written self.old block) → held_block self.old block ≡ Some content → TellsPending self.old block content }
+        ensures told { (block : ℕ) (content : List ℕ) → block < self.old.geom.nat → IsTrue (is_written self.old block) → held_block self.old block ≡ Some content → TellsPending self.old block content }
     {
         if self.needed() <= MOST_JOURNAL_ENTRIES {
             return;

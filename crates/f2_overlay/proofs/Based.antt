@@ -25,26 +25,26 @@ use Rattle.f2_overlay.proofs.Maps.{not_none, one_some}
 no_address : (limit nid at : ℕ) → limit ≤ nid → cond ((nid == 0) || nat_le limit nid) 0 at ≡ 0
 no_address limit nid at past = grind (arith, nat_tests, past)
 
-pub nid_within : (image : Image) (point : Checkpoint) (nid : ℕ) (block : List ℕ) → node image point nid ≡ Some block → nid < nid_limit point.extent
-nid_within image point nid block there = by (cases_lt nid (nid_limit point.extent))
+pub nid_within : (image : Image) (ckpt : Checkpoint) (nid : ℕ) (block : List ℕ) → node image ckpt nid ≡ Some block → nid < nid_limit ckpt.geom
+nid_within image ckpt nid block there = by (cases_lt nid (nid_limit ckpt.geom))
   where
-    by : (nid < nid_limit point.extent) ⊎ (nid_limit point.extent ≤ nid) → nid < nid_limit point.extent
+    by : (nid < nid_limit ckpt.geom) ⊎ (nid_limit ckpt.geom ≤ nid) → nid < nid_limit ckpt.geom
     by (inl low) = low
-    by (inr high) = absurd (not_none block (sym (ap (block_there image) (no_address (nid_limit point.extent) nid (place_of_nid image point nid).1 high)) ∙ there))
+    by (inr high) = absurd (not_none block (sym (ap (block_there image) (no_address (nid_limit ckpt.geom) nid (place_of_nid image ckpt nid).1 high)) ∙ there))
 
-module _ (image : Image) (point : Checkpoint) (walk : Walk) (base : IsBaseRead image point walk) where
-  pub row_of : (ino : ℕ) (row : BaseRow) → map.get walk.rows ino ≡ Some row → IsRowOf image point ino row
+module _ (image : Image) (ckpt : Checkpoint) (walk : Walk) (base : IsBaseRead image ckpt walk) where
+  pub row_of : (ino : ℕ) (row : BaseRow) → map.get walk.rows ino ≡ Some row → IsRowOf image ckpt ino row
   row_of = base.walked.to.rows
 
   abbrev pub HasOne : ℕ → Type 0
   HasOne ino = HasRow walk.rows ino (λ row. Unit {0})
 
-  one_kind : (ino : ℕ) (a b : Kind) (one other : List ℕ) → IsInode image point ino a one → IsInode image point ino b other → a ≡ b
+  one_kind : (ino : ℕ) (a b : Kind) (one other : List ℕ) → IsInode image ckpt ino a one → IsInode image ckpt ino b other → a ≡ b
   one_kind ino a b one other x y =
       let same : one ≡ other = one_some one other (sym x.there ∙ y.there) in
       one_some a b (sym x.is_kind ∙ ap (λ (i : List ℕ). inode_kind i) same ∙ y.is_kind)
 
-  pub reached_row : (ino : ℕ) → IsReached image point ino → HasOne ino
+  pub reached_row : (ino : ℕ) → IsReached image ckpt ino → HasOne ino
   reached_row _ (root) = let r = base.walked.to.root in record { row = r.row; there = r.there; is = tt }
   reached_row _ (below directory dentry reached has) =
       let up = reached_row directory reached in
@@ -56,19 +56,19 @@ module _ (image : Image) (point : Checkpoint) (walk : Walk) (base : IsBaseRead i
 
   -- the pages of a row
   module _ (ino : ℕ) (row : BaseRow) (there : map.get walk.rows ino ≡ Some row) where
-    part : IsPart image point ino node_limit page_limit row.file.nodes
+    part : IsPart image ckpt ino node_limit page_limit row.file.nodes
     part = (row_of ino row there).file.part
 
-    pub page_of_base : (page at : ℕ) → map.get row.file.nodes.pages.pages page ≡ Some at → IsBasePage image point ino page at
+    pub page_of_base : (page at : ℕ) → map.get row.file.nodes.pages.pages page ≡ Some at → IsBasePage image ckpt ino page at
     page_of_base page at has = (part.pages page at has).is
 
-    pub page_of_row : (page at : ℕ) → IsBasePage image point ino page at → map.get row.file.nodes.pages.pages page ≡ Some at
+    pub page_of_row : (page at : ℕ) → IsBasePage image ckpt ino page at → map.get row.file.nodes.pages.pages page ≡ Some at
     page_of_row page at is = part.all_pages page at is is.within
 
     pub list_of_row : IsList page_limit row.file.nodes.pages.pages row.file.nodes.list.items
     list_of_row = part.listed
 
-    pub listed_of_base : AreListed image point ino row.file.nodes.list.items
+    pub listed_of_base : AreListed image ckpt ino row.file.nodes.list.items
     listed_of_base k small =
         let items = row.file.nodes.list.items in
         inl (page_of_base (slice_index_or items k no_page).page (slice_index_or items k no_page).at (part.listed.only (slice_index_or items k no_page) (k, small, get_or_default items k (slice_index_or items k no_page) no_page small)))

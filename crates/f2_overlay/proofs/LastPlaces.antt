@@ -95,26 +95,26 @@ module _ (log : List Logged) (place : ℕ) (lasts : map.FinMap nat_cmp ℕ) (are
   none_marked isnt ino = are ino ∙ sym (ap (λ (x : Bool). cond (x && (footer_ino (block_in log place) == ino)) (Some place) (last_mark_before log place ino)) isnt)
 
 -- what the last marks say of a block
-module _ (image : Image) (point : Checkpoint) (log : List Logged) (is : log ≡ chain image point) (place : ℕ) (within : place < length log) where
+module _ (image : Image) (ckpt : Checkpoint) (log : List Logged) (is : log ≡ chain image ckpt) (place : ℕ) (within : place < length log) where
   abbrev last : Option ℕ
   last = last_mark_before log (length log) (footer_ino (block_in log place))
 
-  mark_at : (p : ℕ) → p < length log → is_marked (block_in log p) ≡ true → IsMarkedAt image point p (block_in log p)
+  mark_at : (p : ℕ) → p < length log → is_marked (block_in log p) ≡ true → IsMarkedAt image ckpt p (block_in log p)
   mark_at p low e = record { within = subst (λ (l : List Logged). p < length l) is low; stands = ap (λ (l : List Logged). block_in l p) is; marked = e }
 
   -- a marked block is taken, and of an inode no other
-  pub marked_taken : is_marked (block_in log place) ≡ true → IsTaken image point place (block_in log place)
+  pub marked_taken : is_marked (block_in log place) ≡ true → IsTaken image ckpt place (block_in log place)
   marked_taken e = marked (mark_at place within e)
 
   no_direct : (offset : ℕ) → offset ≡ 0 → IsDirect offset → ⊥
   no_direct offset none d = omega (arith, positive d.number, d.is, none)
 
-  pub inode_passed : footer_offset (block_in log place) ≡ 0 → is_marked (block_in log place) ≡ false → IsTaken image point place (block_in log place) → ⊥
+  pub inode_passed : footer_offset (block_in log place) ≡ 0 → is_marked (block_in log place) ≡ false → IsTaken image ckpt place (block_in log place) → ⊥
   inode_passed none isnt (marked m) = both_ways _ isnt m.marked
   inode_passed none isnt (direct counted d) = no_direct _ none d
 
   -- a direct node is taken up to the last mark of its file
-  pub direct_taken : (mark : ℕ) → last ≡ Some mark → place ≤ mark → IsDirect (footer_offset (block_in log place)) → IsTaken image point place (block_in log place)
+  pub direct_taken : (mark : ℕ) → last ≡ Some mark → place ≤ mark → IsDirect (footer_offset (block_in log place)) → IsTaken image ckpt place (block_in log place)
   direct_taken mark e low d =
       let found = last_is log (footer_ino (block_in log place)) (length log) mark e in
       direct (record {
@@ -129,12 +129,12 @@ module _ (image : Image) (point : Checkpoint) (log : List Logged) (is : log ≡ 
   not_marked : footer_offset (block_in log place) ≢ 0 → is_marked (block_in log place) ≡ true → ⊥
   not_marked some e = some (eqb-true _ _ (and_parts (footer_offset (block_in log place) == 0) _ e).0)
 
-  pub other_passed : footer_offset (block_in log place) ≢ 0 → (IsDirect (footer_offset (block_in log place)) → ⊥) → IsTaken image point place (block_in log place) → ⊥
+  pub other_passed : footer_offset (block_in log place) ≢ 0 → (IsDirect (footer_offset (block_in log place)) → ⊥) → IsTaken image ckpt place (block_in log place) → ⊥
   other_passed some isnt (marked m) = not_marked some m.marked
   other_passed some isnt (direct counted d) = isnt d
 
   -- and after it none is
-  counted_last : IsCounted image point place (block_in log place) → (mark : ℕ) × ((last ≡ Some mark) × (place ≤ mark))
+  counted_last : IsCounted image ckpt place (block_in log place) → (mark : ℕ) × ((last ≡ Some mark) × (place ≤ mark))
   counted_last counted =
       let back : counted.inode ≡ block_in log counted.mark = counted.marked.stands ∙ ap (λ (l : List Logged). block_in l counted.mark) (sym is) in
       let low : counted.mark < length log = subst (λ (l : List Logged). counted.mark < length l) (sym is) counted.marked.within in
@@ -145,14 +145,14 @@ module _ (image : Image) (point : Checkpoint) (log : List Logged) (is : log ≡ 
       let later : place ≤ counted.mark = counted.later in
       (found.0, (found.1.0, omega (arith, later, found.1.1)))
 
-  pub late_passed : (mark : ℕ) → footer_offset (block_in log place) ≢ 0 → last ≡ Some mark → mark < place → IsTaken image point place (block_in log place) → ⊥
+  pub late_passed : (mark : ℕ) → footer_offset (block_in log place) ≢ 0 → last ≡ Some mark → mark < place → IsTaken image ckpt place (block_in log place) → ⊥
   late_passed mark some e low (marked m) = not_marked some m.marked
   late_passed mark some e low (direct counted d) =
       let found = counted_last counted in
       let same : found.0 ≡ mark = same_Some _ _ (sym found.1.0 ∙ e) in
       omega (arith, low, same, found.1.1)
 
-  pub unmarked_passed : footer_offset (block_in log place) ≢ 0 → last ≡ None → IsTaken image point place (block_in log place) → ⊥
+  pub unmarked_passed : footer_offset (block_in log place) ≢ 0 → last ≡ None → IsTaken image ckpt place (block_in log place) → ⊥
   unmarked_passed some e (marked m) = not_marked some m.marked
   unmarked_passed some e (direct counted d) = let found = counted_last counted in none_some found.0 (sym e ∙ found.1.0)
 

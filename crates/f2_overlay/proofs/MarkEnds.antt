@@ -34,13 +34,13 @@ module _ (image : Image) (size last at : ℕ) (pages : Pages) (there : map.get p
       by (inr other) = inr other
 
 -- a page of a marked file
-module _ (image : Image) (point : Checkpoint) (place ino : ℕ) (block : List ℕ) (pages : Pages) (is : IsMarkedAt image point place block) (own : footer_ino block ≡ ino) (are : AreMarked image point place pages) (page at : ℕ) (there : map.get pages page ≡ Some at) where
-  address : marked_address image point (chain image point) place page ≡ at
+module _ (image : Image) (ckpt : Checkpoint) (place ino : ℕ) (block : List ℕ) (pages : Pages) (is : IsMarkedAt image ckpt place block) (own : footer_ino block ≡ ino) (are : AreMarked image ckpt place pages) (page at : ℕ) (there : map.get pages page ≡ Some at) where
+  address : marked_address image ckpt (chain image ckpt) place page ≡ at
   address = sym (are.addresses page (are.within page at there)) ∙ ap (λ o. unwrap_or o 0) there
 
-  pub page_of_mark : IsPage image point ino page at
+  pub page_of_mark : IsPage image ckpt ino page at
   page_of_mark = inr (record { place = place; inode = block; marked = is; own = own; within = are.within page at there; address = address; there = are.some page at there })
 
-  pub past_size : (size : ℕ) → HasTable point → size ≡ (inode_of block).size → IsPastSize image size page at → HasTable point × IsBadTree image point ino
+  pub past_size : (size : ℕ) → HasTable ckpt → size ≡ (inode_of block).size → IsPastSize image size page at → HasTable ckpt × IsBadTree image ckpt ino
   past_size size has same past =
       (has, faults.marked_past_size place page at block is own (are.within page at there) address (are.some page at there) (subst (λ n. IsPastSize image n page at) same past))

@@ -44,9 +44,9 @@ pub named_as : (block : List ℕ) (inode : Inode) → checked_inode (inode_of bl
 named_as block inode h = named_with (known_kind (inode_of block).mode) block inode refl h
 
 -- a marked block of a file that the base hasn't brings the name in it
-pub brings_name : (image : Image) (point : Checkpoint) (place : ℕ) (block name : List ℕ) (footer : Footer) (inode : Inode) → IsMarkedAt image point place block → footer ≡ footer_of block → IsNamedAs block inode
-    → ¬ (IsReached image point footer.ino) → name ≡ take inode.name_len inode.name → BringsName image point place footer.ino inode.pino name
-brings_name image point place block name footer inode marked is says fresh named = record {
+pub brings_name : (image : Image) (ckpt : Checkpoint) (place : ℕ) (block name : List ℕ) (footer : Footer) (inode : Inode) → IsMarkedAt image ckpt place block → footer ≡ footer_of block → IsNamedAs block inode
+    → ¬ (IsReached image ckpt footer.ino) → name ≡ take inode.name_len inode.name → BringsName image ckpt place footer.ino inode.pino name
+brings_name image ckpt place block name footer inode marked is says fresh named = record {
   block = block;
   marked = marked;
   own = sym (ap (λ (f : Footer). f.ino) is);

@@ -5,7 +5,7 @@ use Rattle.std.specs.Ordering.{nat_cmp}
 use Rattle.std.specs.FinMap as map
 use Rattle.std.specs.FinMap.{get-empty}
 use Rattle.std.proofs.lemmas.Bool.{cases_eq, cases_lt}
-use Rattle.f2_format.specs.Geometry.{Extent, is_in_data}
+use Rattle.f2_format.specs.Geometry.{ImageGeometry, is_in_data}
 use Rattle.f2_image.specs.Images.{Image}
 use Rattle.f2_image.specs.Packs.{Checkpoint}
 use Rattle.f2_image.specs.Reached.{IsPage}
@@ -35,18 +35,18 @@ module _ (old new : Owned) (at : ℕ) (owner : Owner) (alone : (other : Owner) �
   abbrev Is : ℕ → Owner → Type 0
   Is q other = ((q ≡ at) × (owner ≡ other)) ⊎ ((q ≢ at) × (map.get old q ≡ Some other))
 
-  pub right_one : (extent : Extent) (image : Image) (point : Checkpoint) → is_in_data extent at ≡ true → point.extent ≡ extent → IsPage image point owner.ino owner.page at → AreRight image point old → AreRight image point new
-  right_one extent image point inside sizes is right = record {
+  pub right_one : (geom : ImageGeometry) (image : Image) (ckpt : Checkpoint) → is_in_data geom at ≡ true → ckpt.geom ≡ geom → IsPage image ckpt owner.ino owner.page at → AreRight image ckpt old → AreRight image ckpt new
+  right_one geom image ckpt inside sizes is right = record {
     only = λ q other there. only q other (put_cases old at owner q other (ap (λ (m : Owned). map.get m q) (sym put) ∙ there));
     zones = λ q other there. zones q other (put_cases old at owner q other (ap (λ (m : Owned). map.get m q) (sym put) ∙ there));
   }
     where
-      only : (q : ℕ) (other : Owner) → Is q other → IsPage image point other.ino other.page q
-      only q other (inl e) = subst (λ (o : Owner). IsPage image point o.ino o.page q) e.1 (subst (λ n. IsPage image point owner.ino owner.page n) (sym e.0) is)
+      only : (q : ℕ) (other : Owner) → Is q other → IsPage image ckpt other.ino other.page q
+      only q other (inl e) = subst (λ (o : Owner). IsPage image ckpt o.ino o.page q) e.1 (subst (λ n. IsPage image ckpt owner.ino owner.page n) (sym e.0) is)
       only q other (inr was) = right.only q other was.1
 
-      zones : (q : ℕ) (other : Owner) → Is q other → IsTrue (is_in_data point.extent q)
-      zones q other (inl e) = subst (λ n. IsTrue (is_in_data point.extent n)) (sym e.0) (ap (λ (x : Extent). is_in_data x at) sizes ∙ inside)
+      zones : (q : ℕ) (other : Owner) → Is q other → IsTrue (is_in_data ckpt.geom q)
+      zones q other (inl e) = subst (λ n. IsTrue (is_in_data ckpt.geom n)) (sym e.0) (ap (λ (x : ImageGeometry). is_in_data x at) sizes ∙ inside)
       zones q other (inr was) = right.zones q other was.1
 
 -- a listed page more
@@ -61,8 +61,8 @@ listed_more ino list count old new more listed here k small = by (cases_lt k cou
         subst (λ n. map.get new (slice_index_or list n no_page).at ≡ Some (record { ino = ino; page = (slice_index_or list n no_page).page })) same here
 
 -- no address has a page
-pub right_none : (image : Image) (point : Checkpoint) (owned : Owned) → owned ≡ map.empty → AreRight image point owned
-right_none image point owned empty = record {
+pub right_none : (image : Image) (ckpt : Checkpoint) (owned : Owned) → owned ≡ map.empty → AreRight image ckpt owned
+right_none image ckpt owned empty = record {
   only = λ at owner there. absurd (not_none owner (sym (none at) ∙ there));
   zones = λ at owner there. absurd (not_none owner (sym (none at) ∙ there));
 }

@@ -88,11 +88,11 @@ module _ (log : List Logged) (places left less : Places) (old mid : Pages) (offs
             let small : direct_slot page < 1018 = omega arith in
             ap (λ n. address_of new n) slot ∙ put.put (direct_slot page) (omega (arith, small, size)) ∙ are (direct_slot page) small
 
-    pub node_pages : (image : Image) (point : Checkpoint) (ino : ℕ) → AreNodePages image point ino log places → ArePagesFrom image point ino first words
-    node_pages image point ino pages slot small some =
+    pub node_pages : (image : Image) (ckpt : Checkpoint) (ino : ℕ) → AreNodePages image ckpt ino log places → ArePagesFrom image ckpt ino first words
+    node_pages image ckpt ino pages slot small some =
         let short : slot < 1018 = omega (arith, small, size) in
         let word : word_at log place (first + slot) ≡ slice_index words slot = ap (node_word (block_in log place)) (direct_slot-first_page offset first slot is short) ∙ sym (are slot short) in
-        subst (IsPage image point ino (first + slot)) word
+        subst (IsPage image ckpt ino (first + slot)) word
         (pages (first + slot) offset place (direct_of-first_page offset first slot is short) (before.fewer offset place there) (λ zero. some (sym word ∙ zero)))
 
 -- a node's pages are below the limit

@@ -7,7 +7,7 @@ use Rattle.f2_disk.specs.Contents.{Contents}
 use Rattle.f2_footer.specs.Footer.{footer_of}
 use Rattle.f2_footer.specs.declared.Footer.{Footer}
 use Rattle.f2_format.specs.Footer.{footer_ino, footer_offset, has_fsync_mark}
-use Rattle.f2_format.specs.Geometry.{Extent, nid_limit}
+use Rattle.f2_format.specs.Geometry.{ImageGeometry, nid_limit}
 use Rattle.f2_image.specs.Images.{Image}
 use Rattle.f2_image.specs.Packs.{Checkpoint}
 use Rattle.f2_image.specs.Chains.{Logged, block_in, is_marked}
@@ -55,18 +55,18 @@ module _ (log : List Logged) (place : ℕ) (footer : Footer) (is : IsFooterAt lo
   passed_behind all top none are = pending_passed log place (no_mark_of_inode none) all (is.offset ∙ top) are
 
 -- all else stays at a block without a mark
-pub rolled_over : (held : Option Contents) (extent : Extent) (image : Image) (point : Checkpoint) (walk : Walk) (log : List Logged) → IsGround held extent image point walk log → (place : ℕ) → is_marked (block_in log place) ≡ false → (old new : Rolling)
-    → new.rolls ≡ old.rolls → new.owners ≡ old.owners → ArePending log (place + 1) new.pending → IsRolledTo image point walk place old → IsRolledTo image point walk (place + 1) new
-rolled_over held extent image point walk log ground place unmarked old new rolls owners pending before =
-    rolled_unmarked image point walk place old new before (ap (λ (l : List Logged). is_marked (block_in l place)) (sym ground.chain_is) ∙ unmarked) rolls owners
+pub rolled_over : (held : Option Contents) (geom : ImageGeometry) (image : Image) (ckpt : Checkpoint) (walk : Walk) (log : List Logged) → IsGround held geom image ckpt walk log → (place : ℕ) → is_marked (block_in log place) ≡ false → (old new : Rolling)
+    → new.rolls ≡ old.rolls → new.owners ≡ old.owners → ArePending log (place + 1) new.pending → IsRolledTo image ckpt walk place old → IsRolledTo image ckpt walk (place + 1) new
+rolled_over held geom image ckpt walk log ground place unmarked old new rolls owners pending before =
+    rolled_unmarked image ckpt walk place old new before (ap (λ (l : List Logged). is_marked (block_in l place)) (sym ground.chain_is) ∙ unmarked) rolls owners
     (subst (λ (l : List Logged). ArePending l (place + 1) new.pending) ground.chain_is pending)
 
 -- a disk that still tells the image
-pub ground_on : (held now : Option Contents) (extent : Extent) (image : Image) (point : Checkpoint) (walk : Walk) (log : List Logged) → now ≡ held → IsGround held extent image point walk log → IsGround now extent image point walk log
-ground_on held now extent image point walk log same ground = record { tells = tells_on held now image same ground.tells; extent_is = ground.extent_is; base = ground.base; chain_is = ground.chain_is }
+pub ground_on : (held now : Option Contents) (geom : ImageGeometry) (image : Image) (ckpt : Checkpoint) (walk : Walk) (log : List Logged) → now ≡ held → IsGround held geom image ckpt walk log → IsGround now geom image ckpt walk log
+ground_on held now geom image ckpt walk log same ground = record { tells = tells_on held now image same ground.tells; geom_is = ground.geom_is; base = ground.base; chain_is = ground.chain_is }
 
 -- the log before its first block
-pub rolled_first : (held : Option Contents) (extent : Extent) (image : Image) (point : Checkpoint) (walk : Walk) (log : List Logged) → IsGround held extent image point walk log → (rolling : Rolling) → rolling.rolls ≡ map.empty → rolling.pending ≡ map.empty
-    → AreBaseTo image point (nid_limit extent) rolling.owners → IsRolledTo image point walk 0 rolling
-rolled_first held extent image point walk log ground rolling rolls pending owners =
-    rolled_none image point walk rolling rolls pending owners.right (λ ino page at is. base_all image point walk ground.base extent rolling.owners ground.extent_is owners ino page at is)
+pub rolled_first : (held : Option Contents) (geom : ImageGeometry) (image : Image) (ckpt : Checkpoint) (walk : Walk) (log : List Logged) → IsGround held geom image ckpt walk log → (rolling : Rolling) → rolling.rolls ≡ map.empty → rolling.pending ≡ map.empty
+    → AreBaseTo image ckpt (nid_limit geom) rolling.owners → IsRolledTo image ckpt walk 0 rolling
+rolled_first held geom image ckpt walk log ground rolling rolls pending owners =
+    rolled_none image ckpt walk rolling rolls pending owners.right (λ ino page at is. base_all image ckpt walk ground.base geom rolling.owners ground.geom_is owners ino page at is)

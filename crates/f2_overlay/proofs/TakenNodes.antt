@@ -81,48 +81,48 @@ taken_all log places left old new none all = record {
 }
 
 -- the nodes of a file as its mark has them
-module _ (image : Image) (point : Checkpoint) (walk : Walk) (place ino : ℕ) (is : IsMarkedAt image point place (block_in (chain image point) place)) (own : footer_ino (block_in (chain image point) place) ≡ ino)
-    (rolls : map.FinMap nat_cmp Roll) (are : AreRollsTo image point walk place rolls) (newest : Places) (newest_is : (offset : ℕ) → offset ≢ 0 → map.get newest offset ≡ newest_before (chain image point) place ino offset)
-    (begun mid : Nodes) (starts : StartNodesAs (map.get rolls ino) begun) (taken : AreNodesTaken (chain image point) newest map.empty begun mid) where
-  marked : is_marked (block_in (chain image point) place) ≡ true
+module _ (image : Image) (ckpt : Checkpoint) (walk : Walk) (place ino : ℕ) (is : IsMarkedAt image ckpt place (block_in (chain image ckpt) place)) (own : footer_ino (block_in (chain image ckpt) place) ≡ ino)
+    (rolls : map.FinMap nat_cmp Roll) (are : AreRollsTo image ckpt walk place rolls) (newest : Places) (newest_is : (offset : ℕ) → offset ≢ 0 → map.get newest offset ≡ newest_before (chain image ckpt) place ino offset)
+    (begun mid : Nodes) (starts : StartNodesAs (map.get rolls ino) begun) (taken : AreNodesTaken (chain image ckpt) newest map.empty begun mid) where
+  marked : is_marked (block_in (chain image ckpt) place) ≡ true
   marked = is.marked
 
   -- with what it begins
-  start_last : (offset : ℕ) → IsDirect offset → newest_before (chain image point) place ino offset ≡ None → (o : Option ℕ) → last_mark_before (chain image point) place ino ≡ o → (r : Option Roll) → StartNodesAs r begun
-      → IsRoll image point walk ino o r → map.get begun offset ≡ option_map (node_in (chain image point)) (last_node_before (chain image point) place ino offset)
+  start_last : (offset : ℕ) → IsDirect offset → newest_before (chain image ckpt) place ino offset ≡ None → (o : Option ℕ) → last_mark_before (chain image ckpt) place ino ≡ o → (r : Option Roll) → StartNodesAs r begun
+      → IsRoll image ckpt walk ino o r → map.get begun offset ≡ option_map (node_in (chain image ckpt)) (last_node_before (chain image ckpt) place ino offset)
   start_last offset direct none None unmarked None begins roll =
-      ap (λ (m : Nodes). map.get m offset) begins ∙ get-empty nat_cmp offset ∙ sym (ap (λ o. option_map (node_in (chain image point)) o) (newest_node_none (chain image point) place ino offset none unmarked))
+      ap (λ (m : Nodes). map.get m offset) begins ∙ get-empty nat_cmp offset ∙ sym (ap (λ o. option_map (node_in (chain image ckpt)) o) (newest_node_none (chain image ckpt) place ino offset none unmarked))
   start_last offset direct none (Some mark) before (Some r) begins roll =
       ap (λ (m : Nodes). map.get m offset) begins ∙ roll.nodes.direct offset direct
-      ∙ ap (λ n. option_map (node_in (chain image point)) (last_node_before (chain image point) n ino offset)) (add-one mark)
-      ∙ ap (λ o. option_map (node_in (chain image point)) o) (sym (newest_node_marked (chain image point) place ino offset mark none before))
+      ∙ ap (λ n. option_map (node_in (chain image ckpt)) (last_node_before (chain image ckpt) n ino offset)) (add-one mark)
+      ∙ ap (λ o. option_map (node_in (chain image ckpt)) o) (sym (newest_node_marked (chain image ckpt) place ino offset mark none before))
   start_last offset direct none None unmarked (Some r) begins roll = absurd roll
   start_last offset direct none (Some mark) before None begins roll = absurd roll
 
-  start_none : (offset : ℕ) → offset ≢ 0 → ¬ (IsDirect offset) → (o : Option ℕ) (r : Option Roll) → StartNodesAs r begun → IsRoll image point walk ino o r → map.get begun offset ≡ None
+  start_none : (offset : ℕ) → offset ≢ 0 → ¬ (IsDirect offset) → (o : Option ℕ) (r : Option Roll) → StartNodesAs r begun → IsRoll image ckpt walk ino o r → map.get begun offset ≡ None
   start_none offset some isnt None None begins roll = ap (λ (m : Nodes). map.get m offset) begins ∙ get-empty nat_cmp offset
   start_none offset some isnt (Some mark) (Some r) begins roll = ap (λ (m : Nodes). map.get m offset) begins ∙ roll.nodes.others offset some isnt
   start_none offset some isnt None (Some r) begins roll = absurd roll
   start_none offset some isnt (Some mark) None begins roll = absurd roll
 
-  by_newest : (offset : ℕ) → IsDirect offset → offset ≢ 0 → (o : Option ℕ) → map.get newest offset ≡ o → map.get mid offset ≡ option_map (node_in (chain image point)) (last_node_before (chain image point) place ino offset)
+  by_newest : (offset : ℕ) → IsDirect offset → offset ≢ 0 → (o : Option ℕ) → map.get newest offset ≡ o → map.get mid offset ≡ option_map (node_in (chain image ckpt)) (last_node_before (chain image ckpt) place ino offset)
   by_newest offset direct some (Some q) there =
       taken.taken offset q direct there (get-empty nat_cmp offset)
-      ∙ sym (ap (λ o. option_map (node_in (chain image point)) o) (newest_node_some (chain image point) place ino offset q (sym (newest_is offset some) ∙ there)).1)
+      ∙ sym (ap (λ o. option_map (node_in (chain image ckpt)) o) (newest_node_some (chain image ckpt) place ino offset q (sym (newest_is offset some) ∙ there)).1)
   by_newest offset direct some None none =
-      taken.others offset none ∙ start_last offset direct (sym (newest_is offset some) ∙ none) (last_mark_before (chain image point) place ino) refl (map.get rolls ino) starts (are ino)
+      taken.others offset none ∙ start_last offset direct (sym (newest_is offset some) ∙ none) (last_mark_before (chain image ckpt) place ino) refl (map.get rolls ino) starts (are ino)
 
   not_top : (offset : ℕ) → IsDirect offset → offset ≢ 0
   not_top offset direct = let first = page_from_direct offset direct in direct_some first.0 offset first.1
 
-  pub nodes_at : (nodes : Nodes) → nodes ≡ map.insert mid 0 (node_in (chain image point) place) → AreNodesAt image point place ino nodes
+  pub nodes_at : (nodes : Nodes) → nodes ≡ map.insert mid 0 (node_in (chain image ckpt) place) → AreNodesAt image ckpt place ino nodes
   nodes_at nodes put = record {
-    inode = ap (λ (m : Nodes). map.get m 0) put ∙ get_put mid 0 (node_in (chain image point) place);
+    inode = ap (λ (m : Nodes). map.get m 0) put ∙ get_put mid 0 (node_in (chain image ckpt) place);
     direct = λ offset direct.
         below offset (not_top offset direct) ∙ by_newest offset direct (not_top offset direct) (map.get newest offset) refl
-        ∙ ap (λ o. option_map (node_in (chain image point)) o) (sym (last_node_stays (chain image point) place ino marked own ino offset (not_top offset direct)));
-    others = λ offset some isnt. below offset some ∙ taken.passed offset isnt ∙ start_none offset some isnt (last_mark_before (chain image point) place ino) (map.get rolls ino) starts (are ino);
+        ∙ ap (λ o. option_map (node_in (chain image ckpt)) o) (sym (last_node_stays (chain image ckpt) place ino marked own ino offset (not_top offset direct)));
+    others = λ offset some isnt. below offset some ∙ taken.passed offset isnt ∙ start_none offset some isnt (last_mark_before (chain image ckpt) place ino) (map.get rolls ino) starts (are ino);
   }
     where
       below : (offset : ℕ) → offset ≢ 0 → map.get nodes offset ≡ map.get mid offset
-      below offset some = ap (λ (m : Nodes). map.get m offset) put ∙ get_put-other mid 0 (node_in (chain image point) place) offset some
+      below offset some = ap (λ (m : Nodes). map.get m offset) put ∙ get_put-other mid 0 (node_in (chain image ckpt) place) offset some

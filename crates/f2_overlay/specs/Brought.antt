@@ -34,25 +34,25 @@ pub record IsBrought (old new : BroughtNames) (directory : ℕ) (name : List ℕ
   pub others : (of : ℕ) (more : List ℕ) → ¬ ((of ≡ directory) × (more ≡ name)) → bringer new of more ≡ bringer old of more
 
 -- what is right of a name that a mark brings, whatever other marks bring
-pub record IsFitName (image : Image) (point : Checkpoint) (parent : ℕ) (name : List ℕ) : Type 0 where
+pub record IsFitName (image : Image) (ckpt : Checkpoint) (parent : ℕ) (name : List ℕ) : Type 0 where
   pub good : is_good_name name ≡ true
-  pub under : IsDirectoryOf image point parent
-  pub free : (dentry : Dentry) → HasDentry image point parent dentry → dentry.name ≢ name
+  pub under : IsDirectoryOf image ckpt parent
+  pub free : (dentry : Dentry) → HasDentry image ckpt parent dentry → dentry.name ≢ name
 
 -- a marked block of the node log stands at a place
-pub record IsLoggedAt (image : Image) (point : Checkpoint) (place : ℕ) (logged : Logged) : Type 0 where
-  pub marked : IsMarkedAt image point place logged.block
-  pub at_is : (slice_index_or (chain image point) place no_block).at ≡ logged.at
+pub record IsLoggedAt (image : Image) (ckpt : Checkpoint) (place : ℕ) (logged : Logged) : Type 0 where
+  pub marked : IsMarkedAt image ckpt place logged.block
+  pub at_is : (slice_index_or (chain image ckpt) place no_block).at ≡ logged.at
 
 -- a mark before a place brings a name
-pub record IsBroughtBefore (image : Image) (point : Checkpoint) (place ino parent : ℕ) (name : List ℕ) : Type 0 where
+pub record IsBroughtBefore (image : Image) (ckpt : Checkpoint) (place ino parent : ℕ) (name : List ℕ) : Type 0 where
   pub earlier : ℕ
   pub before : earlier < place
-  pub brings : BringsName image point earlier ino parent name
+  pub brings : BringsName image ckpt earlier ino parent name
 
 -- the marks before a place are right, and the names that they bring are fit and are these, each with the file that brings it
-pub record AreRightTo (image : Image) (point : Checkpoint) (place : ℕ) (brought : BroughtNames) : Type 0 where
-  pub marks : (earlier : ℕ) (block : List ℕ) → IsMarkedAt image point earlier block → earlier < place → IsRightMark image point block
-  pub fit : (earlier ino parent : ℕ) (name : List ℕ) → BringsName image point earlier ino parent name → earlier < place → IsFitName image point parent name
-  pub all : (earlier ino parent : ℕ) (name : List ℕ) → BringsName image point earlier ino parent name → earlier < place → bringer brought parent name ≡ Some ino
-  pub only : (parent : ℕ) (name : List ℕ) (ino : ℕ) → bringer brought parent name ≡ Some ino → IsBroughtBefore image point place ino parent name
+pub record AreRightTo (image : Image) (ckpt : Checkpoint) (place : ℕ) (brought : BroughtNames) : Type 0 where
+  pub marks : (earlier : ℕ) (block : List ℕ) → IsMarkedAt image ckpt earlier block → earlier < place → IsRightMark image ckpt block
+  pub fit : (earlier ino parent : ℕ) (name : List ℕ) → BringsName image ckpt earlier ino parent name → earlier < place → IsFitName image ckpt parent name
+  pub all : (earlier ino parent : ℕ) (name : List ℕ) → BringsName image ckpt earlier ino parent name → earlier < place → bringer brought parent name ≡ Some ino
+  pub only : (parent : ℕ) (name : List ℕ) (ino : ℕ) → bringer brought parent name ≡ Some ino → IsBroughtBefore image ckpt place ino parent name

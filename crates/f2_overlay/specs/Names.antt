@@ -11,18 +11,18 @@ use Rattle.f2_image.specs.Reached.{IsMarkedAt}
 use Rattle.f2_image.specs.Faults.{BringsName, IsDirectoryOf}
 
 -- a marked block is that of a regular file, and says that it brings a name where the base hasn't the file
-pub record IsRightMark (image : Image) (point : Checkpoint) (block : List ℕ) : Type 0 where
+pub record IsRightMark (image : Image) (ckpt : Checkpoint) (block : List ℕ) : Type 0 where
   pub kind : inode_kind block ≢ Some Directory
-  pub file : ¬ (IsDirectoryOf image point (footer_ino block))
-  pub bound : ¬ (IsReached image point (footer_ino block)) → has_dentry_mark block ≡ true
+  pub file : ¬ (IsDirectoryOf image ckpt (footer_ino block))
+  pub bound : ¬ (IsReached image ckpt (footer_ino block)) → has_dentry_mark block ≡ true
 
 -- a name that a mark brings is good, goes into a directory of the base that hasn't it, and no other file brings it
-pub record IsRightName (image : Image) (point : Checkpoint) (ino parent : ℕ) (name : List ℕ) : Type 0 where
+pub record IsRightName (image : Image) (ckpt : Checkpoint) (ino parent : ℕ) (name : List ℕ) : Type 0 where
   pub good : is_good_name name ≡ true
-  pub under : IsDirectoryOf image point parent
-  pub free : (dentry : Dentry) → HasDentry image point parent dentry → dentry.name ≢ name
-  pub alone : (place other : ℕ) → BringsName image point place other parent name → other ≡ ino
+  pub under : IsDirectoryOf image ckpt parent
+  pub free : (dentry : Dentry) → HasDentry image ckpt parent dentry → dentry.name ≢ name
+  pub alone : (place other : ℕ) → BringsName image ckpt place other parent name → other ≡ ino
 
-pub record HasRightMarks (image : Image) (point : Checkpoint) : Type 0 where
-  pub marks : (place : ℕ) (block : List ℕ) → IsMarkedAt image point place block → IsRightMark image point block
-  pub names : (place ino parent : ℕ) (name : List ℕ) → BringsName image point place ino parent name → IsRightName image point ino parent name
+pub record HasRightMarks (image : Image) (ckpt : Checkpoint) : Type 0 where
+  pub marks : (place : ℕ) (block : List ℕ) → IsMarkedAt image ckpt place block → IsRightMark image ckpt block
+  pub names : (place ino parent : ℕ) (name : List ℕ) → BringsName image ckpt place ino parent name → IsRightName image ckpt ino parent name

@@ -23,12 +23,12 @@ abbrev pub owner_of : List ℕ → Holder
 owner_of block = record { ino = footer_ino block; offset = footer_offset block }
 
 -- a node that a block of the log has may have this nid beside the nodes of the base
-pub record IsFitNid (image : Image) (point : Checkpoint) (ino offset nid : ℕ) : Type 0 where
+pub record IsFitNid (image : Image) (ckpt : Checkpoint) (ino offset nid : ℕ) : Type 0 where
   pub least : 4 ≤ nid
-  pub most : nid < nid_limit point.extent
+  pub most : nid < nid_limit ckpt.geom
   pub inode : offset ≡ 0 → nid ≡ ino
-  pub kept : (other : ℕ) → IsNode image point ino offset other → other ≡ nid
-  pub alone : (other more : ℕ) → IsNode image point other more nid → (other ≡ ino) × (more ≡ offset)
+  pub kept : (other : ℕ) → IsNode image ckpt ino offset other → other ≡ nid
+  pub alone : (other more : ℕ) → IsNode image ckpt other more nid → (other ≡ ino) × (more ≡ offset)
 
 -- a nid has this node now, which it had if it had any, and all others have what they had
 pub record IsClaimed (old now : Holders) (nid : ℕ) (owner : Holder) : Type 0 where
@@ -43,18 +43,18 @@ IsClaimFault owners nid owner Read = ⊥
 IsClaimFault owners nid owner Memory = ⊤
 
 -- a block before a place is taken, and has this nid and this node
-pub record IsClaimedBefore (image : Image) (point : Checkpoint) (place nid : ℕ) (owner : Holder) : Type 0 where
+pub record IsClaimedBefore (image : Image) (ckpt : Checkpoint) (place nid : ℕ) (owner : Holder) : Type 0 where
   pub earlier : ℕ
   pub before : earlier < place
   pub block : List ℕ
-  pub taken : IsTaken image point earlier block
+  pub taken : IsTaken image ckpt earlier block
   pub nid_is : footer_nid block ≡ nid
   pub owner_is : owner_of block ≡ owner
 
 -- the blocks before a place were looked at: none stands where a node of the base does, and the nids of those that are taken are right and
 -- known with their nodes
-pub record IsCheckedTo (image : Image) (point : Checkpoint) (place : ℕ) (owners : Holders) : Type 0 where
-  pub apart : (ino offset nid earlier : ℕ) → IsNode image point ino offset nid → earlier < place → (slice_index_or (chain image point) earlier no_block).at ≢ node_address image point nid
-  pub fit : (earlier : ℕ) (block : List ℕ) → IsTaken image point earlier block → earlier < place → IsFitNid image point (footer_ino block) (footer_offset block) (footer_nid block)
-  pub known : (earlier : ℕ) (block : List ℕ) → IsTaken image point earlier block → earlier < place → map.get owners (footer_nid block) ≡ Some (owner_of block)
-  pub only : (nid : ℕ) (owner : Holder) → map.get owners nid ≡ Some owner → IsClaimedBefore image point place nid owner
+pub record IsCheckedTo (image : Image) (ckpt : Checkpoint) (place : ℕ) (owners : Holders) : Type 0 where
+  pub apart : (ino offset nid earlier : ℕ) → IsNode image ckpt ino offset nid → earlier < place → (slice_index_or (chain image ckpt) earlier no_block).at ≢ node_address image ckpt nid
+  pub fit : (earlier : ℕ) (block : List ℕ) → IsTaken image ckpt earlier block → earlier < place → IsFitNid image ckpt (footer_ino block) (footer_offset block) (footer_nid block)
+  pub known : (earlier : ℕ) (block : List ℕ) → IsTaken image ckpt earlier block → earlier < place → map.get owners (footer_nid block) ≡ Some (owner_of block)
+  pub only : (nid : ℕ) (owner : Holder) → map.get owners nid ≡ Some owner → IsClaimedBefore image ckpt place nid owner

@@ -24,9 +24,9 @@ abbrev pub IsMore : Owned → Owned → Type 0
 IsMore old new = (at : ℕ) (owner : Owner) → map.get old at ≡ Some owner → map.get new at ≡ Some owner
 
 -- each address is that of a page of base or marks, and in the data zone
-pub record AreRight (image : Image) (point : Checkpoint) (owned : Owned) : Type 0 where
-  pub only : (at : ℕ) (owner : Owner) → map.get owned at ≡ Some owner → IsPage image point owner.ino owner.page at
-  pub zones : (at : ℕ) (owner : Owner) → map.get owned at ≡ Some owner → IsTrue (is_in_data point.extent at)
+pub record AreRight (image : Image) (ckpt : Checkpoint) (owned : Owned) : Type 0 where
+  pub only : (at : ℕ) (owner : Owner) → map.get owned at ≡ Some owner → IsPage image ckpt owner.ino owner.page at
+  pub zones : (at : ℕ) (owner : Owner) → map.get owned at ≡ Some owner → IsTrue (is_in_data ckpt.geom at)
 
 -- the pages of a file stand at addresses that are their own
 pub record AreOwn (ino : ℕ) (pages : Pages) (owned : Owned) : Type 0 where
@@ -40,13 +40,13 @@ HasListed ino list count owned = (k : ℕ) → k < count → map.get owned (slic
 
 -- the pages of a list are pages of base or marks
 abbrev pub AreListed : Image → Checkpoint → ℕ → List PageAt → Type 0
-AreListed image point ino list = (k : ℕ) → k < length list → IsPage image point ino (slice_index_or list k no_page).page (slice_index_or list k no_page).at
+AreListed image ckpt ino list = (k : ℕ) → k < length list → IsPage image ckpt ino (slice_index_or list k no_page).page (slice_index_or list k no_page).at
 
 -- addresses from a page on are those of pages of base or marks, but for 0
 abbrev pub ArePagesFrom : Image → Checkpoint → ℕ → ℕ → List ℕ → Type 0
-ArePagesFrom image point ino first addresses = (slot : ℕ) → slot < length addresses → slice_index addresses slot ≢ 0 → IsPage image point ino (first + slot) (slice_index addresses slot)
+ArePagesFrom image ckpt ino first addresses = (slot : ℕ) → slot < length addresses → slice_index addresses slot ≢ 0 → IsPage image ckpt ino (first + slot) (slice_index addresses slot)
 
 -- the pages of the base whose files have inos below a limit have their addresses
-pub record AreBaseTo (image : Image) (point : Checkpoint) (limit : ℕ) (owned : Owned) : Type 0 where
-  pub right : AreRight image point owned
-  pub all : (ino page at : ℕ) → ino < limit → IsBasePage image point ino page at → map.get owned at ≡ Some (record { ino = ino; page = page })
+pub record AreBaseTo (image : Image) (ckpt : Checkpoint) (limit : ℕ) (owned : Owned) : Type 0 where
+  pub right : AreRight image ckpt owned
+  pub all : (ino page at : ℕ) → ino < limit → IsBasePage image ckpt ino page at → map.get owned at ≡ Some (record { ino = ino; page = page })

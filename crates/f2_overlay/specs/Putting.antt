@@ -38,8 +38,8 @@ pub record AreNodesPut (log : List Logged) (places left : Places) (old new : Pag
 
 -- the words of direct nodes of a log are addresses of pages of base or marks, but for 0
 abbrev pub AreNodePages : Image → Checkpoint → ℕ → List Logged → Places → Type 0
-AreNodePages image point ino log places =
-    (page offset place : ℕ) → direct_of page ≡ Some offset → map.get places offset ≡ Some place → word_at log place page ≢ 0 → IsPage image point ino page (word_at log place page)
+AreNodePages image ckpt ino log places =
+    (page offset place : ℕ) → direct_of page ≡ Some offset → map.get places offset ≡ Some place → word_at log place page ≢ 0 → IsPage image ckpt ino page (word_at log place page)
 
 -- one page has an address, or none where it is 0
 pub record IsPut (page at : ℕ) (old new : Pages) : Type 0 where

@@ -3,7 +3,7 @@ use Rattle.std.specs.Prelude.{◌≡◌, ◌≢◌, ℕ, ◌<◌, List, take, Op
 use Rattle.std.specs.FinMap as map
 use Rattle.f2_disk.specs.Contents.{Contents}
 use Rattle.f2_format.specs.Footer.{footer_ino}
-use Rattle.f2_format.specs.Geometry.{Extent}
+use Rattle.f2_format.specs.Geometry.{ImageGeometry}
 use Rattle.f2_format.specs.Inode.{inode_of}
 use Rattle.f2_format.specs.Offsets.{page_limit}
 use Rattle.f2_image.specs.Images.{Image}
@@ -26,11 +26,11 @@ use Rattle.f2_recover.specs.declared.rows.BaseRow.{BaseRow}
 use Rattle.f2_recover.specs.declared.walk.Walk.{Walk}
 
 -- a log is walked over the base of its image, which was read
-pub record IsGround (held : Option Contents) (extent : Extent) (image : Image) (point : Checkpoint) (walk : Walk) (log : List Logged) : Type 0 where
+pub record IsGround (held : Option Contents) (geom : ImageGeometry) (image : Image) (ckpt : Checkpoint) (walk : Walk) (log : List Logged) : Type 0 where
   pub tells : Tells held image
-  pub extent_is : point.extent ≡ extent
-  pub base : IsBaseRead image point walk
-  pub chain_is : log ≡ chain image point
+  pub geom_is : ckpt.geom ≡ geom
+  pub base : IsBaseRead image ckpt walk
+  pub chain_is : log ≡ chain image ckpt
 
 -- the pages with which a mark of a file begins: those of its mark before, else those of the base
 abbrev pub StartAs : Option Roll → Option BaseRow → Pages → Type 0
@@ -44,29 +44,29 @@ StartNodesAs (Some roll) nodes = nodes ≡ roll.nodes
 StartNodesAs None nodes = nodes ≡ map.empty
 
 -- the pages of a mark
-pub record AreMarked (image : Image) (point : Checkpoint) (place : ℕ) (pages : Pages) : Type 0 where
-  pub addresses : (page : ℕ) → page < page_limit → address_of pages page ≡ marked_address image point (chain image point) place page
+pub record AreMarked (image : Image) (ckpt : Checkpoint) (place : ℕ) (pages : Pages) : Type 0 where
+  pub addresses : (page : ℕ) → page < page_limit → address_of pages page ≡ marked_address image ckpt (chain image ckpt) place page
   pub some : (page at : ℕ) → map.get pages page ≡ Some at → at ≢ 0
   pub within : (page at : ℕ) → map.get pages page ≡ Some at → page < page_limit
 
 -- the pages of base and marks before a place have their addresses
-pub record AreOwnersTo (image : Image) (point : Checkpoint) (place : ℕ) (owned : Owned) : Type 0 where
-  pub right : AreRight image point owned
-  pub base : (ino page at : ℕ) → IsBasePage image point ino page at → map.get owned at ≡ Some (record { ino = ino; page = page })
-  pub marks : (mark page : ℕ) (block : List ℕ) → mark < place → IsMarkedAt image point mark block → page < page_limit → marked_address image point (chain image point) mark page ≢ 0
-      → map.get owned (marked_address image point (chain image point) mark page) ≡ Some (record { ino = footer_ino block; page = page })
+pub record AreOwnersTo (image : Image) (ckpt : Checkpoint) (place : ℕ) (owned : Owned) : Type 0 where
+  pub right : AreRight image ckpt owned
+  pub base : (ino page at : ℕ) → IsBasePage image ckpt ino page at → map.get owned at ≡ Some (record { ino = ino; page = page })
+  pub marks : (mark page : ℕ) (block : List ℕ) → mark < place → IsMarkedAt image ckpt mark block → page < page_limit → marked_address image ckpt (chain image ckpt) mark page ≢ 0
+      → map.get owned (marked_address image ckpt (chain image ckpt) mark page) ≡ Some (record { ino = footer_ino block; page = page })
 
 -- no mark before a place has a page past its size
 abbrev pub EndsWell : Image → Checkpoint → ℕ → Type 0
-EndsWell image point mark = (page : ℕ) (block : List ℕ) → IsMarkedAt image point mark block → page < page_limit → marked_address image point (chain image point) mark page ≢ 0
-    → ¬ (IsPastSize image (inode_of block).size page (marked_address image point (chain image point) mark page))
+EndsWell image ckpt mark = (page : ℕ) (block : List ℕ) → IsMarkedAt image ckpt mark block → page < page_limit → marked_address image ckpt (chain image ckpt) mark page ≢ 0
+    → ¬ (IsPastSize image (inode_of block).size page (marked_address image ckpt (chain image ckpt) mark page))
 
 -- a log was walked up to a place
-pub record IsRolledTo (image : Image) (point : Checkpoint) (walk : Walk) (place : ℕ) (rolling : Rolling) : Type 0 where
-  pub rolls : AreRollsTo image point walk place rolling.rolls
-  pub pending : ArePending (chain image point) place rolling.pending
-  pub owners : AreOwnersTo image point place rolling.owners
-  pub ends : (mark : ℕ) → mark < place → EndsWell image point mark
+pub record IsRolledTo (image : Image) (ckpt : Checkpoint) (walk : Walk) (place : ℕ) (rolling : Rolling) : Type 0 where
+  pub rolls : AreRollsTo image ckpt walk place rolling.rolls
+  pub pending : ArePending (chain image ckpt) place rolling.pending
+  pub owners : AreOwnersTo image ckpt place rolling.owners
+  pub ends : (mark : ℕ) → mark < place → EndsWell image ckpt mark
 
 -- a file's directory and name are those of the base, or those that its inode tells
 abbrev pub IsNamedAs : Inode → Option BaseRow → ℕ → List ℕ → Type 0

@@ -29,9 +29,9 @@ node_in log place = node_of (slice_index_or log place no_block)
 
 -- the nodes that recovery takes of a file whose mark stands at a place: its inode, which is the mark, and of each of its direct nodes the last
 -- block up to the mark; none of another offset
-pub record AreNodesAt (image : Image) (point : Checkpoint) (place ino : ℕ) (nodes : Nodes) : Type 0 where
-  pub inode : map.get nodes 0 ≡ Some (node_in (chain image point) place)
-  pub direct : (offset : ℕ) → IsDirect offset → map.get nodes offset ≡ option_map (node_in (chain image point)) (last_node_before (chain image point) (place + 1) ino offset)
+pub record AreNodesAt (image : Image) (ckpt : Checkpoint) (place ino : ℕ) (nodes : Nodes) : Type 0 where
+  pub inode : map.get nodes 0 ≡ Some (node_in (chain image ckpt) place)
+  pub direct : (offset : ℕ) → IsDirect offset → map.get nodes offset ≡ option_map (node_in (chain image ckpt)) (last_node_before (chain image ckpt) (place + 1) ino offset)
   pub others : (offset : ℕ) → offset ≢ 0 → ¬ (IsDirect offset) → map.get nodes offset ≡ None
 
 -- the direct nodes of some places of a log were taken, and of the others those that are left; nodes of other offsets never are

@@ -78,7 +78,7 @@ impl Brought {
     /// Notes that a file brings a name into a directory; a fault where another file brings the same.
     pub(crate) fn bring(&mut self, directory: u32, name: Name, ino: u32) -> Result<(), MountFault>
         ensures brought { OnOk result (IsBrought self.old self.new directory name ino) }
-        ensures fault { IfErr result (λ fault. (image : Image) (point : Checkpoint) (place : ℕ) → HasTable point → AreRightTo image point place self.old → BringsName image point place ino directory name → IsRightFault image point fault) }
+        ensures fault { IfErr result (λ fault. (image : Image) (ckpt : Checkpoint) (place : ℕ) → HasTable ckpt → AreRightTo image ckpt place self.old → BringsName image ckpt place ino directory name → IsRightFault image ckpt fault) }
         ensures no_read { result ≢ Err MountFault.Read }
     {
         if let Some(other) = self.get(directory, &name) {

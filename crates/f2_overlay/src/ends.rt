@@ -32,8 +32,8 @@ pub(crate) fn check_end<D: Disk>(
 ) -> Result<(), MountFault>
     requires device { g.now.blocks ≤ (D.meter disk.old).blocks }
     ensures right { OnOk result ((image : Image) → Tells (D.contents disk.old) image → (page at : ℕ) → map.get pages.now page ≡ Some at → ¬ (IsPastSize image size page at)) }
-    ensures fault { IfErr result (λ fault. (image : Image) (point : Checkpoint) (place : ℕ) (block : List ℕ) → Tells (D.contents disk.old) image → HasTable point → point.extent ≡ g.now → IsMarkedAt image point place block
-        → footer_ino block ≡ ino → size ≡ (inode_of block).size → AreMarked image point place pages.now → IsRightFault image point fault) }
+    ensures fault { IfErr result (λ fault. (image : Image) (ckpt : Checkpoint) (place : ℕ) (block : List ℕ) → Tells (D.contents disk.old) image → HasTable ckpt → ckpt.geom ≡ g.now → IsMarkedAt image ckpt place block
+        → footer_ino block ≡ ino → size ≡ (inode_of block).size → AreMarked image ckpt place pages.now → IsRightFault image ckpt fault) }
     ensures reads { OnlyReads (D.contents disk.old) (D.meter disk.old) (D.contents disk.new) (D.meter disk.new) }
     ensures cause { result ≡ Err MountFault.Read → HasFailed (D.meter disk.old) (D.meter disk.new) }
 {

@@ -44,8 +44,8 @@ impl LastMarks {
     pub(crate) fn takes(&self, log: &[LogBlock], place: u32) -> bool
         requires lasts { AreLastMarks log.now self.now }
         requires within { place < length log.now }
-        ensures taken { result ≡ true → (image : Image) (point : Checkpoint) → log.now ≡ chain image point → IsTaken image point place (block_in log.now place) }
-        ensures passed { result ≡ false → (image : Image) (point : Checkpoint) → log.now ≡ chain image point → ¬ (IsTaken image point place (block_in log.now place)) }
+        ensures taken { result ≡ true → (image : Image) (ckpt : Checkpoint) → log.now ≡ chain image ckpt → IsTaken image ckpt place (block_in log.now place) }
+        ensures passed { result ≡ false → (image : Image) (ckpt : Checkpoint) → log.now ≡ chain image ckpt → ¬ (IsTaken image ckpt place (block_in log.now place)) }
     {
         self.takes_at(log, place as usize)
     }
@@ -54,8 +54,8 @@ impl LastMarks {
     pub(crate) fn takes_at(&self, log: &[LogBlock], place: usize) -> bool
         requires lasts { AreLastMarks log.now self.now }
         requires within { place < length log.now }
-        ensures taken { result ≡ true → (image : Image) (point : Checkpoint) → log.now ≡ chain image point → IsTaken image point place (block_in log.now place) }
-        ensures passed { result ≡ false → (image : Image) (point : Checkpoint) → log.now ≡ chain image point → ¬ (IsTaken image point place (block_in log.now place)) }
+        ensures taken { result ≡ true → (image : Image) (ckpt : Checkpoint) → log.now ≡ chain image ckpt → IsTaken image ckpt place (block_in log.now place) }
+        ensures passed { result ≡ false → (image : Image) (ckpt : Checkpoint) → log.now ≡ chain image ckpt → ¬ (IsTaken image ckpt place (block_in log.now place)) }
     {
         let logged = &log[place];
         let footer = f2_footer::read(&logged.block);

@@ -108,8 +108,8 @@ fn place_of(alloc: Global, walk: &Walk, ino: u32, inode: &Inode) -> Result<(u32,
 
 /// Whether an ino that the base hasn't is the nid of no other node there.
 fn check_ino(walk: &Walk, footer: Footer) -> Result<(), MountFault>
-    ensures free { OnOk result ((image : Image) (point : Checkpoint) → IsBaseRead image point walk.now → map.get walk.now.rows footer.ino ≡ None → node image point footer.ino ≡ None) }
-    ensures fault { IfErr result (λ fault. (image : Image) (point : Checkpoint) (place : ℕ) (block : List ℕ) → IsBaseRead image point walk.now → IsMarkedAt image point place block → footer ≡ footer_of block → IsRightFault image point fault) }
+    ensures free { OnOk result ((image : Image) (ckpt : Checkpoint) → IsBaseRead image ckpt walk.now → map.get walk.now.rows footer.ino ≡ None → node image ckpt footer.ino ≡ None) }
+    ensures fault { IfErr result (λ fault. (image : Image) (ckpt : Checkpoint) (place : ℕ) (block : List ℕ) → IsBaseRead image ckpt walk.now → IsMarkedAt image ckpt place block → footer ≡ footer_of block → IsRightFault image ckpt fault) }
     ensures no_read { result ≢ Err MountFault.Read }
 {
     if walk.rows.contains(footer.ino) {
@@ -135,10 +135,10 @@ fn roll_mark<D: Disk>(
     requires within { place < length log.now }
     requires marked { is_marked (block_in log.now place) ≡ true }
     requires pending { ArePending log.now place rolling.old.pending }
-    ensures rolled { OnOk result ((image : Image) (point : Checkpoint) → IsGround (D.contents disk.old) g.now image point walk.now log.now → IsRolledTo image point walk.now place rolling.old
-        → IsRolledTo image point walk.now (place + 1) rolling.new) }
+    ensures rolled { OnOk result ((image : Image) (ckpt : Checkpoint) → IsGround (D.contents disk.old) g.now image ckpt walk.now log.now → IsRolledTo image ckpt walk.now place rolling.old
+        → IsRolledTo image ckpt walk.now (place + 1) rolling.new) }
     ensures pending { OnOk result (ArePending log.now (place + 1) rolling.new.pending) }
-    ensures fault { IfErr result (λ fault. (image : Image) (point : Checkpoint) → IsGround (D.contents disk.old) g.now image point walk.now log.now → IsRolledTo image point walk.now place rolling.old → IsRightFault image point fault) }
+    ensures fault { IfErr result (λ fault. (image : Image) (ckpt : Checkpoint) → IsGround (D.contents disk.old) g.now image ckpt walk.now log.now → IsRolledTo image ckpt walk.now place rolling.old → IsRightFault image ckpt fault) }
     ensures reads { OnlyReads (D.contents disk.old) (D.meter disk.old) (D.contents disk.new) (D.meter disk.new) }
     ensures cause { result ≡ Err MountFault.Read → HasFailed (D.meter disk.old) (D.meter disk.new) }
 {
@@ -187,10 +187,10 @@ pub(crate) fn roll_block<D: Disk>(
     requires device { g.now.blocks ≤ (D.meter disk.old).blocks }
     requires within { place < length log.now }
     requires pending { ArePending log.now place rolling.old.pending }
-    ensures rolled { OnOk result ((image : Image) (point : Checkpoint) → IsGround (D.contents disk.old) g.now image point walk.now log.now → IsRolledTo image point walk.now place rolling.old
-        → IsRolledTo image point walk.now (place + 1) rolling.new) }
+    ensures rolled { OnOk result ((image : Image) (ckpt : Checkpoint) → IsGround (D.contents disk.old) g.now image ckpt walk.now log.now → IsRolledTo image ckpt walk.now place rolling.old
+        → IsRolledTo image ckpt walk.now (place + 1) rolling.new) }
     ensures pending { OnOk result (ArePending log.now (place + 1) rolling.new.pending) }
-    ensures fault { IfErr result (λ fault. (image : Image) (point : Checkpoint) → IsGround (D.contents disk.old) g.now image point walk.now log.now → IsRolledTo image point walk.now place rolling.old → IsRightFault image point fault) }
+    ensures fault { IfErr result (λ fault. (image : Image) (ckpt : Checkpoint) → IsGround (D.contents disk.old) g.now image ckpt walk.now log.now → IsRolledTo image ckpt walk.now place rolling.old → IsRightFault image ckpt fault) }
     ensures reads { OnlyReads (D.contents disk.old) (D.meter disk.old) (D.contents disk.new) (D.meter disk.new) }
     ensures cause { result ≡ Err MountFault.Read → HasFailed (D.meter disk.old) (D.meter disk.new) }
 {

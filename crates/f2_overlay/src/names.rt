@@ -28,8 +28,8 @@ use std::alloc::Global;
 /// Looks at the files that are marked and at the names that they bring: each is a regular file, and one that the base hasn't
 /// says that it brings its name, a good one, into a directory of the base that hasn't it, and no other file brings the same.
 pub fn check_names(alloc: Global, walk: &Walk, log: &[LogBlock]) -> Result<(), MountFault>
-    ensures marks { OnOk result ((image : Image) (point : Checkpoint) → IsBaseRead image point walk.now → log.now ≡ chain image point → HasRightMarks image point) }
-    ensures fault { IfErr result (λ fault. (image : Image) (point : Checkpoint) → IsBaseRead image point walk.now → log.now ≡ chain image point → IsRightFault image point fault) }
+    ensures marks { OnOk result ((image : Image) (ckpt : Checkpoint) → IsBaseRead image ckpt walk.now → log.now ≡ chain image ckpt → HasRightMarks image ckpt) }
+    ensures fault { IfErr result (λ fault. (image : Image) (ckpt : Checkpoint) → IsBaseRead image ckpt walk.now → log.now ≡ chain image ckpt → IsRightFault image ckpt fault) }
     ensures no_read { result ≢ Err MountFault.Read }
 {
     let mut brought = Brought::new(alloc);
@@ -56,8 +56,8 @@ fn check_mark(
     logged: &LogBlock,
     brought: &mut Brought,
 ) -> Result<(), MountFault>
-    ensures right { OnOk result ((image : Image) (point : Checkpoint) (place : ℕ) → IsBaseRead image point walk.now → IsLoggedAt image point place logged.now → AreRightTo image point place brought.old → AreRightTo image point (place + 1) brought.new) }
-    ensures fault { IfErr result (λ fault. (image : Image) (point : Checkpoint) (place : ℕ) → IsBaseRead image point walk.now → IsLoggedAt image point place logged.now → AreRightTo image point place brought.old → IsRightFault image point fault) }
+    ensures right { OnOk result ((image : Image) (ckpt : Checkpoint) (place : ℕ) → IsBaseRead image ckpt walk.now → IsLoggedAt image ckpt place logged.now → AreRightTo image ckpt place brought.old → AreRightTo image ckpt (place + 1) brought.new) }
+    ensures fault { IfErr result (λ fault. (image : Image) (ckpt : Checkpoint) (place : ℕ) → IsBaseRead image ckpt walk.now → IsLoggedAt image ckpt place logged.now → AreRightTo image ckpt place brought.old → IsRightFault image ckpt fault) }
     ensures no_read { result ≢ Err MountFault.Read }
 {
     let inode = read_mark(logged)?;
@@ -84,11 +84,11 @@ fn read_mark(logged: &LogBlock) -> Result<Inode, MountFault>
 
 /// Looks at a marked file of a kind, and tells whether it brings its name, as a file does that the base hasn't.
 fn check_file(walk: &Walk, footer: Footer, kind: Kind) -> Result<bool, MountFault>
-    ensures right { OnOk result ((image : Image) (point : Checkpoint) (block : List ℕ) → IsBaseRead image point walk.now → footer ≡ footer_of block → inode_kind block ≡ Some kind → IsRightMark image point block) }
-    ensures fresh { IfOk result (λ brings. brings ≡ true → (image : Image) (point : Checkpoint) → IsBaseRead image point walk.now → ¬ (IsReached image point footer.ino)) }
-    ensures old { IfOk result (λ brings. brings ≡ false → (image : Image) (point : Checkpoint) → IsBaseRead image point walk.now → IsReached image point footer.ino) }
-    ensures fault { IfErr result (λ fault. (image : Image) (point : Checkpoint) (place : ℕ) (block : List ℕ) → IsBaseRead image point walk.now → IsMarkedAt image point place block → footer ≡ footer_of block
-        → inode_kind block ≡ Some kind → IsRightFault image point fault) }
+    ensures right { OnOk result ((image : Image) (ckpt : Checkpoint) (block : List ℕ) → IsBaseRead image ckpt walk.now → footer ≡ footer_of block → inode_kind block ≡ Some kind → IsRightMark image ckpt block) }
+    ensures fresh { IfOk result (λ brings. brings ≡ true → (image : Image) (ckpt : Checkpoint) → IsBaseRead image ckpt walk.now → ¬ (IsReached image ckpt footer.ino)) }
+    ensures old { IfOk result (λ brings. brings ≡ false → (image : Image) (ckpt : Checkpoint) → IsBaseRead image ckpt walk.now → IsReached image ckpt footer.ino) }
+    ensures fault { IfErr result (λ fault. (image : Image) (ckpt : Checkpoint) (place : ℕ) (block : List ℕ) → IsBaseRead image ckpt walk.now → IsMarkedAt image ckpt place block → footer ≡ footer_of block
+        → inode_kind block ≡ Some kind → IsRightFault image ckpt fault) }
     ensures no_read { result ≢ Err MountFault.Read }
 {
     let ino = footer.ino;
@@ -106,8 +106,8 @@ fn check_file(walk: &Walk, footer: Footer, kind: Kind) -> Result<bool, MountFaul
 
 /// Looks at a name that a file brings into a directory, whatever other marks bring.
 fn check_name(walk: &Walk, ino: u32, directory: u32, name: &Name) -> Result<(), MountFault>
-    ensures fit { OnOk result ((image : Image) (point : Checkpoint) → IsBaseRead image point walk.now → IsFitName image point directory name.now) }
-    ensures fault { IfErr result (λ fault. (image : Image) (point : Checkpoint) (place : ℕ) → IsBaseRead image point walk.now → BringsName image point place ino directory name.now → IsRightFault image point fault) }
+    ensures fit { OnOk result ((image : Image) (ckpt : Checkpoint) → IsBaseRead image ckpt walk.now → IsFitName image ckpt directory name.now) }
+    ensures fault { IfErr result (λ fault. (image : Image) (ckpt : Checkpoint) (place : ℕ) → IsBaseRead image ckpt walk.now → BringsName image ckpt place ino directory name.now → IsRightFault image ckpt fault) }
     ensures no_read { result ≢ Err MountFault.Read }
 {
     if !name.is_good() {

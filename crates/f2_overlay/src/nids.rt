@@ -32,9 +32,9 @@ pub fn check_nids(
     lasts: &LastMarks,
 ) -> Result<(), MountFault>
     requires lasts { AreLastMarks log.now lasts.now }
-    ensures nids { OnOk result ((image : Image) (point : Checkpoint) → IsBaseRead image point walk.now → log.now ≡ chain image point → HasRightNids image point) }
-    ensures apart { OnOk result ((image : Image) (point : Checkpoint) → IsBaseRead image point walk.now → log.now ≡ chain image point → IsApart image point) }
-    ensures fault { IfErr result (λ fault. (image : Image) (point : Checkpoint) → IsBaseRead image point walk.now → log.now ≡ chain image point → IsRightFault image point fault) }
+    ensures nids { OnOk result ((image : Image) (ckpt : Checkpoint) → IsBaseRead image ckpt walk.now → log.now ≡ chain image ckpt → HasRightNids image ckpt) }
+    ensures apart { OnOk result ((image : Image) (ckpt : Checkpoint) → IsBaseRead image ckpt walk.now → log.now ≡ chain image ckpt → IsApart image ckpt) }
+    ensures fault { IfErr result (λ fault. (image : Image) (ckpt : Checkpoint) → IsBaseRead image ckpt walk.now → log.now ≡ chain image ckpt → IsRightFault image ckpt fault) }
     ensures no_read { result ≢ Err MountFault.Read }
 {
     let mut owners = Holders::new(alloc);
@@ -54,8 +54,8 @@ fn check_block(
 ) -> Result<(), MountFault>
     requires lasts { AreLastMarks log.now lasts.now }
     requires within { place < length log.now }
-    ensures checked { OnOk result ((image : Image) (point : Checkpoint) → IsBaseRead image point walk.now → log.now ≡ chain image point → IsCheckedTo image point place owners.old → IsCheckedTo image point (place + 1) owners.new) }
-    ensures fault { IfErr result (λ fault. (image : Image) (point : Checkpoint) → IsBaseRead image point walk.now → log.now ≡ chain image point → IsCheckedTo image point place owners.old → IsRightFault image point fault) }
+    ensures checked { OnOk result ((image : Image) (ckpt : Checkpoint) → IsBaseRead image ckpt walk.now → log.now ≡ chain image ckpt → IsCheckedTo image ckpt place owners.old → IsCheckedTo image ckpt (place + 1) owners.new) }
+    ensures fault { IfErr result (λ fault. (image : Image) (ckpt : Checkpoint) → IsBaseRead image ckpt walk.now → log.now ≡ chain image ckpt → IsCheckedTo image ckpt place owners.old → IsRightFault image ckpt fault) }
     ensures no_read { result ≢ Err MountFault.Read }
 {
     let logged = &log[place];
@@ -74,9 +74,9 @@ fn check_block(
 
 /// Whether a block may have its nid beside the nodes of the base.
 fn is_fit(walk: &Walk, footer: &Footer) -> bool
-    ensures fit { result ≡ true → (image : Image) (point : Checkpoint) → IsBaseRead image point walk.now → IsFitNid image point footer.now.ino footer.now.offset footer.now.nid }
-    ensures unfit { result ≡ false → (image : Image) (point : Checkpoint) (place : ℕ) (block : List ℕ) → IsBaseRead image point walk.now → footer.now ≡ footer_of block
-        → IsTaken image point place block → IsBadNat image point footer.now.nid }
+    ensures fit { result ≡ true → (image : Image) (ckpt : Checkpoint) → IsBaseRead image ckpt walk.now → IsFitNid image ckpt footer.now.ino footer.now.offset footer.now.nid }
+    ensures unfit { result ≡ false → (image : Image) (ckpt : Checkpoint) (place : ℕ) (block : List ℕ) → IsBaseRead image ckpt walk.now → footer.now ≡ footer_of block
+        → IsTaken image ckpt place block → IsBadNat image ckpt footer.now.nid }
 {
     if footer.nid < LEAST_NID || footer.nid >= walk.zones.nid_limit() {
         return false;
@@ -92,8 +92,8 @@ fn is_fit(walk: &Walk, footer: &Footer) -> bool
 
 /// The nid of a node of the base, or `None` where the base hasn't the node.
 fn nid_of(walk: &Walk, ino: u32, offset: u32) -> Option<u32>
-    ensures is { IfSome result (λ nid. (image : Image) (point : Checkpoint) → IsBaseRead image point walk.now → IsNode image point ino offset nid) }
-    ensures none { IsNone result → (image : Image) (point : Checkpoint) (nid : ℕ) → IsBaseRead image point walk.now → ¬ (IsNode image point ino offset nid) }
+    ensures is { IfSome result (λ nid. (image : Image) (ckpt : Checkpoint) → IsBaseRead image ckpt walk.now → IsNode image ckpt ino offset nid) }
+    ensures none { IsNone result → (image : Image) (ckpt : Checkpoint) (nid : ℕ) → IsBaseRead image ckpt walk.now → ¬ (IsNode image ckpt ino offset nid) }
 {
     let row = walk.rows.get(ino)?;
     row.file.nodes.nids.get(offset)

@@ -79,7 +79,7 @@ impl Owners {
         ensures inside { OnOk result (is_in_data g.now at ≡ true) }
         ensures alone { OnOk result ((other : Owner) → map.get self.old at ≡ Some other → other ≡ owner) }
         ensures put { OnOk result (self.new ≡ map.insert self.old at owner) }
-        ensures fault { IfErr result (λ fault. (image : Image) (point : Checkpoint) → HasTable point → point.extent ≡ g.now → AreRight image point self.old → IsPage image point owner.ino owner.page at → IsRightFault image point fault) }
+        ensures fault { IfErr result (λ fault. (image : Image) (ckpt : Checkpoint) → HasTable ckpt → ckpt.geom ≡ g.now → AreRight image ckpt self.old → IsPage image ckpt owner.ino owner.page at → IsRightFault image ckpt fault) }
         ensures no_read { result ≢ Err MountFault.Read }
     {
         if !g.in_data(at) {
@@ -98,8 +98,8 @@ impl Owners {
     fn claim_all(&mut self, g: &Geometry, ino: u32, list: &[PageAt]) -> Result<(), MountFault>
         ensures more { OnOk result (IsMore self.old self.new) }
         ensures listed { OnOk result (HasListed ino list.now (length list.now) self.new) }
-        ensures right { OnOk result ((image : Image) (point : Checkpoint) → point.extent ≡ g.now → AreListed image point ino list.now → AreRight image point self.old → AreRight image point self.new) }
-        ensures fault { IfErr result (λ fault. (image : Image) (point : Checkpoint) → HasTable point → point.extent ≡ g.now → AreListed image point ino list.now → AreRight image point self.old → IsRightFault image point fault) }
+        ensures right { OnOk result ((image : Image) (ckpt : Checkpoint) → ckpt.geom ≡ g.now → AreListed image ckpt ino list.now → AreRight image ckpt self.old → AreRight image ckpt self.new) }
+        ensures fault { IfErr result (λ fault. (image : Image) (ckpt : Checkpoint) → HasTable ckpt → ckpt.geom ≡ g.now → AreListed image ckpt ino list.now → AreRight image ckpt self.old → IsRightFault image ckpt fault) }
         ensures no_read { result ≢ Err MountFault.Read }
     {
         for listed in list {
@@ -115,8 +115,8 @@ impl Owners {
 
 /// The pages of the base.
 pub(crate) fn owners_of_base(alloc: Global, g: &Geometry, walk: &Walk) -> Result<Owners, MountFault>
-    ensures base { IfOk result (λ owners. (image : Image) (point : Checkpoint) → HasTable point → point.extent ≡ g.now → IsBaseRead image point walk.now → AreBaseTo image point (nid_limit g.now) owners) }
-    ensures fault { IfErr result (λ fault. (image : Image) (point : Checkpoint) → HasTable point → point.extent ≡ g.now → IsBaseRead image point walk.now → IsRightFault image point fault) }
+    ensures base { IfOk result (λ owners. (image : Image) (ckpt : Checkpoint) → HasTable ckpt → ckpt.geom ≡ g.now → IsBaseRead image ckpt walk.now → AreBaseTo image ckpt (nid_limit g.now) owners) }
+    ensures fault { IfErr result (λ fault. (image : Image) (ckpt : Checkpoint) → HasTable ckpt → ckpt.geom ≡ g.now → IsBaseRead image ckpt walk.now → IsRightFault image ckpt fault) }
     ensures no_read { result ≢ Err MountFault.Read }
 {
     let mut owners = Owners::new(alloc);

@@ -40,8 +40,8 @@ fn put_page(
     ensures put { OnOk result (IsPut owner.page at pages.old pages.new) }
     ensures more { OnOk result (IsMore owners.old owners.new) }
     ensures own { OnOk result (AreOwn owner.ino pages.old owners.old → AreOwn owner.ino pages.new owners.new) }
-    ensures right { OnOk result ((image : Image) (point : Checkpoint) → point.extent ≡ g.now → (at ≢ 0 → IsPage image point owner.ino owner.page at) → AreRight image point owners.old → AreRight image point owners.new) }
-    ensures fault { IfErr result (λ fault. (image : Image) (point : Checkpoint) → HasTable point → point.extent ≡ g.now → (at ≢ 0 → IsPage image point owner.ino owner.page at) → AreRight image point owners.old → IsRightFault image point fault) }
+    ensures right { OnOk result ((image : Image) (ckpt : Checkpoint) → ckpt.geom ≡ g.now → (at ≢ 0 → IsPage image ckpt owner.ino owner.page at) → AreRight image ckpt owners.old → AreRight image ckpt owners.new) }
+    ensures fault { IfErr result (λ fault. (image : Image) (ckpt : Checkpoint) → HasTable ckpt → ckpt.geom ≡ g.now → (at ≢ 0 → IsPage image ckpt owner.ino owner.page at) → AreRight image ckpt owners.old → IsRightFault image ckpt fault) }
     ensures no_read { result ≢ Err MountFault.Read }
 {
     if at == 0 {
@@ -65,8 +65,8 @@ pub(crate) fn put_addresses(
     ensures put { OnOk result (ArePut first.page addresses.now pages.old pages.new) }
     ensures more { OnOk result (IsMore owners.old owners.new) }
     ensures own { OnOk result (AreOwn first.ino pages.old owners.old → AreOwn first.ino pages.new owners.new) }
-    ensures right { OnOk result ((image : Image) (point : Checkpoint) → point.extent ≡ g.now → ArePagesFrom image point first.ino first.page addresses.now → AreRight image point owners.old → AreRight image point owners.new) }
-    ensures fault { IfErr result (λ fault. (image : Image) (point : Checkpoint) → HasTable point → point.extent ≡ g.now → ArePagesFrom image point first.ino first.page addresses.now → AreRight image point owners.old → IsRightFault image point fault) }
+    ensures right { OnOk result ((image : Image) (ckpt : Checkpoint) → ckpt.geom ≡ g.now → ArePagesFrom image ckpt first.ino first.page addresses.now → AreRight image ckpt owners.old → AreRight image ckpt owners.new) }
+    ensures fault { IfErr result (λ fault. (image : Image) (ckpt : Checkpoint) → HasTable ckpt → ckpt.geom ≡ g.now → ArePagesFrom image ckpt first.ino first.page addresses.now → AreRight image ckpt owners.old → IsRightFault image ckpt fault) }
     ensures no_read { result ≢ Err MountFault.Read }
 {
     for (slot, at) in addresses.iter().enumerate() {
@@ -106,8 +106,8 @@ pub(crate) fn put_nodes(
     ensures nodes { OnOk result (AreNodesTaken log.now newest map.empty nodes.old nodes.new) }
     ensures more { OnOk result (IsMore owners.old owners.new) }
     ensures own { OnOk result (AreOwn ino pages.old owners.old → AreOwn ino pages.new owners.new) }
-    ensures right { OnOk result ((image : Image) (point : Checkpoint) → point.extent ≡ g.now → AreNodePages image point ino log.now newest → AreRight image point owners.old → AreRight image point owners.new) }
-    ensures fault { IfErr result (λ fault. (image : Image) (point : Checkpoint) → HasTable point → point.extent ≡ g.now → AreNodePages image point ino log.now newest → AreRight image point owners.old → IsRightFault image point fault) }
+    ensures right { OnOk result ((image : Image) (ckpt : Checkpoint) → ckpt.geom ≡ g.now → AreNodePages image ckpt ino log.now newest → AreRight image ckpt owners.old → AreRight image ckpt owners.new) }
+    ensures fault { IfErr result (λ fault. (image : Image) (ckpt : Checkpoint) → HasTable ckpt → ckpt.geom ≡ g.now → AreNodePages image ckpt ino log.now newest → AreRight image ckpt owners.old → IsRightFault image ckpt fault) }
     ensures no_read { result ≢ Err MountFault.Read }
 {
     while let Some((offset, place)) = newest.take_one() {

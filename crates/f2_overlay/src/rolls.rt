@@ -114,12 +114,12 @@ pub fn roll_files<D: Disk>(
 ) -> Result<Rolls, MountFault>
     requires device { g.now.blocks ≤ (D.meter disk.old).blocks }
     requires few { length log.now < 2 ^ 31 }
-    ensures rolls { IfOk result (λ rolls. (image : Image) (point : Checkpoint) → Tells (D.contents disk.old) image → point.extent ≡ g.now → IsBaseRead image point walk.now → log.now ≡ chain image point
-        → HasNoLogFault image point → HasRightMarks image point → AreRolls image point walk.now rolls) }
-    ensures pages { OnOk result ((image : Image) (point : Checkpoint) → Tells (D.contents disk.old) image → point.extent ≡ g.now → IsBaseRead image point walk.now → log.now ≡ chain image point
-        → HasNoLogFault image point → HasRightMarks image point → HasRightPages image point) }
-    ensures fault { IfErr result (λ fault. (image : Image) (point : Checkpoint) → Tells (D.contents disk.old) image → point.extent ≡ g.now → IsBaseRead image point walk.now → log.now ≡ chain image point
-        → HasNoLogFault image point → HasRightMarks image point → IsRightFault image point fault) }
+    ensures rolls { IfOk result (λ rolls. (image : Image) (ckpt : Checkpoint) → Tells (D.contents disk.old) image → ckpt.geom ≡ g.now → IsBaseRead image ckpt walk.now → log.now ≡ chain image ckpt
+        → HasNoLogFault image ckpt → HasRightMarks image ckpt → AreRolls image ckpt walk.now rolls) }
+    ensures pages { OnOk result ((image : Image) (ckpt : Checkpoint) → Tells (D.contents disk.old) image → ckpt.geom ≡ g.now → IsBaseRead image ckpt walk.now → log.now ≡ chain image ckpt
+        → HasNoLogFault image ckpt → HasRightMarks image ckpt → HasRightPages image ckpt) }
+    ensures fault { IfErr result (λ fault. (image : Image) (ckpt : Checkpoint) → Tells (D.contents disk.old) image → ckpt.geom ≡ g.now → IsBaseRead image ckpt walk.now → log.now ≡ chain image ckpt
+        → HasNoLogFault image ckpt → HasRightMarks image ckpt → IsRightFault image ckpt fault) }
     ensures reads { OnlyReads (D.contents disk.old) (D.meter disk.old) (D.contents disk.new) (D.meter disk.new) }
     ensures cause { result ≡ Err MountFault.Read → HasFailed (D.meter disk.old) (D.meter disk.new) }
 {
@@ -141,8 +141,8 @@ fn roll_log<D: Disk>(
 ) -> Result<Rolling, MountFault>
     requires device { g.now.blocks ≤ (D.meter disk.old).blocks }
     requires few { length log.now < 2 ^ 31 }
-    ensures rolled { IfOk result (λ rolling. (image : Image) (point : Checkpoint) → IsGround (D.contents disk.old) g.now image point walk.now log.now → IsRolledTo image point walk.now (length log.now) rolling) }
-    ensures fault { IfErr result (λ fault. (image : Image) (point : Checkpoint) → IsGround (D.contents disk.old) g.now image point walk.now log.now → IsRightFault image point fault) }
+    ensures rolled { IfOk result (λ rolling. (image : Image) (ckpt : Checkpoint) → IsGround (D.contents disk.old) g.now image ckpt walk.now log.now → IsRolledTo image ckpt walk.now (length log.now) rolling) }
+    ensures fault { IfErr result (λ fault. (image : Image) (ckpt : Checkpoint) → IsGround (D.contents disk.old) g.now image ckpt walk.now log.now → IsRightFault image ckpt fault) }
     ensures reads { OnlyReads (D.contents disk.old) (D.meter disk.old) (D.contents disk.new) (D.meter disk.new) }
     ensures cause { result ≡ Err MountFault.Read → HasFailed (D.meter disk.old) (D.meter disk.new) }
 {

@@ -21,27 +21,27 @@ use Rattle.f2_overlay_laws.proofs.RightMarks.{no_conflict, has_parent}
 use Rattle.f2_overlay_laws.proofs.RightTree.{right_tree}
 
 -- what is not more than a limit has not more
-pub not_full : (image : Image) (point : Checkpoint) → HasRightNodes image point → HasRightPages image point → IsRoomy image point → (limit : ℕ) → IsTooFull image point limit → ⊥
-not_full image point nodes pages room limit (faults.base_nodes third more) = nodes.few_nodes (subst (HasMore (ℕ × ℕ) (IsSomeNode image point)) third more)
-not_full image point nodes pages room limit (faults.base_blocks third more) = nodes.few_blocks (subst (HasMore ℕ (IsBaseBlock image point)) third more)
-not_full image point nodes pages room limit (faults.tree_nodes tree has third more) = let fit = room.nodes tree has in omega (arith, fit, third, more)
-not_full image point nodes pages room limit (faults.tree_blocks tree has third more) = let fit = room.blocks tree has in omega (arith, fit, third, more)
-not_full image point nodes pages room limit (faults.all_blocks third more) = pages.few (subst (HasMore ℕ (IsSomeBlock image point)) third more)
+pub not_full : (image : Image) (ckpt : Checkpoint) → HasRightNodes image ckpt → HasRightPages image ckpt → IsRoomy image ckpt → (limit : ℕ) → IsTooFull image ckpt limit → ⊥
+not_full image ckpt nodes pages room limit (faults.base_nodes third more) = nodes.few_nodes (subst (HasMore (ℕ × ℕ) (IsSomeNode image ckpt)) third more)
+not_full image ckpt nodes pages room limit (faults.base_blocks third more) = nodes.few_blocks (subst (HasMore ℕ (IsBaseBlock image ckpt)) third more)
+not_full image ckpt nodes pages room limit (faults.tree_nodes tree has third more) = let fit = room.nodes tree has in omega (arith, fit, third, more)
+not_full image ckpt nodes pages room limit (faults.tree_blocks tree has third more) = let fit = room.blocks tree has in omega (arith, fit, third, more)
+not_full image ckpt nodes pages room limit (faults.all_blocks third more) = pages.few (subst (HasMore ℕ (IsSomeBlock image ckpt)) third more)
 
-module _ (image : Image) (point : Checkpoint) (walk : Walk) (read : IsBaseRead image point walk) (log : HasNoLogFault image point) (nids : HasRightNids image point) (apart : IsApart image point) (marks : HasRightMarks image point)
-    (pages : HasRightPages image point) (room : IsRoomy image point) where
-  pub all_right : IsSound image point
+module _ (image : Image) (ckpt : Checkpoint) (walk : Walk) (read : IsBaseRead image ckpt walk) (log : HasNoLogFault image ckpt) (nids : HasRightNids image ckpt) (apart : IsApart image ckpt) (marks : HasRightMarks image ckpt)
+    (pages : HasRightPages image ckpt) (room : IsRoomy image ckpt) where
+  pub all_right : IsSound image ckpt
   all_right BadSuper at not_end bad = bad
   all_right NoCheckpoint at not_end bad = bad
   all_right VersionEnd at not_end bad = not_end refl
   all_right Journal at not_end bad = let few = read.has in let many = bad.0 in omega (arith, few, many)
-  all_right BadNat at not_end bad = right_table image point (right_nodes image point walk read) nids at bad.1
-  all_right BadInode at not_end bad = right_inode image point (right_nodes image point walk read) log at bad
-  all_right DentFault at not_end bad = right_dentries image point (right_nodes image point walk read) (right_names image point walk read) at bad.1
+  all_right BadNat at not_end bad = right_table image ckpt (right_nodes image ckpt walk read) nids at bad.1
+  all_right BadInode at not_end bad = right_inode image ckpt (right_nodes image ckpt walk read) log at bad
+  all_right DentFault at not_end bad = right_dentries image ckpt (right_nodes image ckpt walk read) (right_names image ckpt walk read) at bad.1
   all_right ChainLong at not_end bad = log.no_chain_long at bad
-  all_right OutOfZone at not_end bad = right_zones image point (right_nodes image point walk read) pages log at bad
-  all_right Shared at not_end bad = not_shared image point (right_nodes image point walk read) pages apart at bad.1
-  all_right Conflict at not_end bad = no_conflict image point marks at bad.1
-  all_right NoParent at not_end bad = has_parent image point marks at bad.1
-  all_right BadTree at not_end bad = right_tree image point (right_names image point walk read) marks pages at bad.1
-  all_right TooFull at not_end bad = not_full image point (right_nodes image point walk read) pages room at bad.1
+  all_right OutOfZone at not_end bad = right_zones image ckpt (right_nodes image ckpt walk read) pages log at bad
+  all_right Shared at not_end bad = not_shared image ckpt (right_nodes image ckpt walk read) pages apart at bad.1
+  all_right Conflict at not_end bad = no_conflict image ckpt marks at bad.1
+  all_right NoParent at not_end bad = has_parent image ckpt marks at bad.1
+  all_right BadTree at not_end bad = right_tree image ckpt (right_names image ckpt walk read) marks pages at bad.1
+  all_right TooFull at not_end bad = not_full image ckpt (right_nodes image ckpt walk read) pages room at bad.1

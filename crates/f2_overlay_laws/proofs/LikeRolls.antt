@@ -38,9 +38,9 @@ same_names image tree block row roll None (Some base) like p q = absurd like
 same_names image tree block row roll (Some old) None like p q = absurd like
 same_names image tree block row roll (Some old) (Some base) like p q = (p.0 ∙ like.parent ∙ sym q.0, p.1 ∙ like.named ∙ sym q.1)
 
-module _ (image : Image) (point : Checkpoint) (walk : Walk) (base : Rows) (place ino : ℕ) (mark : Mark) (roll : Roll) (is : IsMark image point base (chain image point) place mark) (at : IsRollAt image point walk place ino roll) where
+module _ (image : Image) (ckpt : Checkpoint) (walk : Walk) (base : Rows) (place ino : ℕ) (mark : Mark) (roll : Roll) (is : IsMark image ckpt base (chain image ckpt) place mark) (at : IsRollAt image ckpt walk place ino roll) where
   abbrev address : ℕ → ℕ
-  address page = marked_address image point (chain image point) place page
+  address page = marked_address image ckpt (chain image ckpt) place page
 
   same_page : (page : ℕ) → map.get mark.row.pages page ≡ option_map (block_at image) (map.get roll.pages page)
   same_page page = by (map.get roll.pages page) refl
@@ -60,9 +60,9 @@ module _ (image : Image) (point : Checkpoint) (walk : Walk) (base : Rows) (place
       by None e = none e (cases_lt page page_limit)
       by (Some address) e = known (Some address) e (at.within page address e) ∙ some_there image address (at.there page address e)
 
-  pub mark_like : mark.ino ≡ ino → inode_kind (block_in (chain image point) place) ≢ Some Directory → AreAlike image (map.get base ino) (map.get walk.rows ino) → IsRollLike image mark.row roll
+  pub mark_like : mark.ino ≡ ino → inode_kind (block_in (chain image ckpt) place) ≢ Some Directory → AreAlike image (map.get base ino) (map.get walk.rows ino) → IsRollLike image mark.row roll
   mark_like own file like =
-      let block = block_in (chain image point) place in
+      let block = block_in (chain image ckpt) place in
       let named : IsNamed base block mark.row (map.get base ino) = subst (λ n. IsNamed base block mark.row (map.get base n)) own is.named in
       let names = same_names image base block mark.row roll (map.get base ino) (map.get walk.rows ino) like named at.named in
       record {

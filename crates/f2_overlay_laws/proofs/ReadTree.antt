@@ -26,20 +26,20 @@ named_as : (base : Rows) (inode : List ℕ) (old : Option Row) → (parent : ℕ
 named_as base inode (Some old) = (old.parent, (old.name, λ row p q. (p, q)))
 named_as base inode None = ((inode_of inode).parent, (take (inode_of inode).name_length (inode_of inode).name, λ row p q. (p, q)))
 
-module _ (image : Image) (point : Checkpoint) (right : HasNoLogFault image point) where
+module _ (image : Image) (ckpt : Checkpoint) (right : HasNoLogFault image ckpt) where
   -- a marked block has a kind, since it isn't a foreign inode
-  marked_kind : (place : ℕ) (block : List ℕ) → IsMarkedAt image point place block → (kind : Kind) × (inode_kind block ≡ Some kind)
+  marked_kind : (place : ℕ) (block : List ℕ) → IsMarkedAt image ckpt place block → (kind : Kind) × (inode_kind block ≡ Some kind)
   marked_kind place block is = by (inode_kind block) refl
     where
       by : (told : Option Kind) → inode_kind block ≡ told → (kind : Kind) × (inode_kind block ≡ Some kind)
       by None e = absurd (right.no_bad_inode place block is (inl e))
       by (Some kind) e = (kind, e)
 
-  mark_at : (base : Rows) (place : ℕ) → place < length (chain image point) → IsTrue (is_marked (block_in (chain image point) place)) → (mark : Mark) × IsMark image point base (chain image point) place mark
+  mark_at : (base : Rows) (place : ℕ) → place < length (chain image ckpt) → IsTrue (is_marked (block_in (chain image ckpt) place)) → (mark : Mark) × IsMark image ckpt base (chain image ckpt) place mark
   mark_at base place within marked =
-      let block = block_in (chain image point) place in
+      let block = block_in (chain image ckpt) place in
       let kind = marked_kind place block (record { within = within; stands = refl; marked = marked }) in
-      let pages = map_below (λ page. block_there image (marked_address image point (chain image point) place page)) page_limit in
+      let pages = map_below (λ page. block_there image (marked_address image ckpt (chain image ckpt) place page)) page_limit in
       let name = named_as base block (map.get base (footer_ino block)) in
       let row : Row = record { ino = footer_ino block; kind = kind.0; parent = name.0; name = name.1.0; size = (inode_of block).size; pages = pages.entries } in (
         record { ino = footer_ino block; row = row },
@@ -54,12 +54,12 @@ module _ (image : Image) (point : Checkpoint) (right : HasNoLogFault image point
       )
 
   -- each marked place of the chain has a mark
-  read_marks : (base : Rows) → (marks : List Mark) × AreMarks image point base marks
+  read_marks : (base : Rows) → (marks : List Mark) × AreMarks image ckpt base marks
   read_marks base =
-      zipped (IsMark image point base (chain image point)) (λ place. is_marked (block_in (chain image point) place)) (length (chain image point)) (mark_at base) 0 (length (chain image point)) (omega arith)
+      zipped (IsMark image ckpt base (chain image ckpt)) (λ place. is_marked (block_in (chain image ckpt) place)) (length (chain image ckpt)) (mark_at base) 0 (length (chain image ckpt)) (omega arith)
 
-pub read_tree : (image : Image) (point : Checkpoint) (walk : Walk) → IsBaseRead image point walk → HasNoLogFault image point → (base : Rows) × ((marks : List Mark) × (IsBase image point base × AreMarks image point base marks))
-read_tree image point walk read right =
-    let found = read_base image point walk read.walked in
-    let marks = read_marks image point right found.0 in
+pub read_tree : (image : Image) (ckpt : Checkpoint) (walk : Walk) → IsBaseRead image ckpt walk → HasNoLogFault image ckpt → (base : Rows) × ((marks : List Mark) × (IsBase image ckpt base × AreMarks image ckpt base marks))
+read_tree image ckpt walk read right =
+    let found = read_base image ckpt walk read.walked in
+    let marks = read_marks image ckpt right found.0 in
     (found.0, (marks.0, (found.1, marks.1)))

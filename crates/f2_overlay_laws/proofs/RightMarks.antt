@@ -10,15 +10,15 @@ use Rattle.f2_image.specs.Faults as faults
 use Rattle.f2_image.specs.Faults.{IsConflict, HasNoParent, IsDirectoryOf}
 use Rattle.f2_overlay.specs.Names.{IsRightMark, HasRightMarks}
 
-module _ (image : Image) (point : Checkpoint) (right : HasRightMarks image point) where
-  pub no_conflict : (ino : ℕ) → IsConflict image point ino → ⊥
+module _ (image : Image) (ckpt : Checkpoint) (right : HasRightMarks image ckpt) where
+  pub no_conflict : (ino : ℕ) → IsConflict image ckpt ino → ⊥
   no_conflict ino (faults.in_base place parent name dentry brings reached has same) = (right.names place ino parent name brings).free dentry has same
   no_conflict ino (faults.in_log place earlier other parent name brings before lower differ) = differ ((right.names place ino parent name brings).alone earlier other before)
 
-  pub has_parent : (ino : ℕ) → HasNoParent image point ino → ⊥
+  pub has_parent : (ino : ℕ) → HasNoParent image ckpt ino → ⊥
   has_parent ino bad = bad.none (right.names bad.place ino bad.parent bad.name bad.brings).under
 
   -- a marked file is no directory
-  pub no_directory : (ino : ℕ) (block : List ℕ) → IsRightMark image point block → footer_ino block ≡ ino → (inode_kind block ≡ Some Directory) ⊎ IsDirectoryOf image point ino → ⊥
+  pub no_directory : (ino : ℕ) (block : List ℕ) → IsRightMark image ckpt block → footer_ino block ≡ ino → (inode_kind block ≡ Some Directory) ⊎ IsDirectoryOf image ckpt ino → ⊥
   no_directory ino block mark own (inl kind) = mark.kind kind
-  no_directory ino block mark own (inr directory) = mark.file (subst (λ n. IsDirectoryOf image point n) (sym own) directory)
+  no_directory ino block mark own (inr directory) = mark.file (subst (λ n. IsDirectoryOf image ckpt n) (sym own) directory)

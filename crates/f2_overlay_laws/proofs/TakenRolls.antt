@@ -74,13 +74,13 @@ module _ (log : List Logged) (ino offset : ℕ) where
           let before = earlier (omega (arith, low, other)) in
           (before.0, (step n false t ∙ before.1.0, before.1.1))
 
-module _ (image : Image) (point : Checkpoint) (walk : Walk) (rolls : map.FinMap nat_cmp Roll) (right : HasRightNids image point) (are : AreRolls image point walk rolls) where
+module _ (image : Image) (ckpt : Checkpoint) (walk : Walk) (rolls : map.FinMap nat_cmp Roll) (right : HasRightNids image ckpt) (are : AreRolls image ckpt walk rolls) where
   -- the last mark of a file
   record IsLastMark (ino place : ℕ) : Type 0 where
-    within : place < length (chain image point)
-    is : IsMark (chain image point) ino place
+    within : place < length (chain image ckpt)
+    is : IsMark (chain image ckpt) ino place
 
-  mark_at : (ino place : ℕ) → IsLastMark ino place → IsMarkedAt image point place (block_in (chain image point) place)
+  mark_at : (ino place : ℕ) → IsLastMark ino place → IsMarkedAt image ckpt place (block_in (chain image ckpt) place)
   mark_at ino place m = record { within = m.within; stands = refl; marked = m.is.marked }
 
   top_of : (block : List ℕ) → is_marked block ≡ true → footer_offset block ≡ 0
@@ -90,102 +90,102 @@ module _ (image : Image) (point : Checkpoint) (walk : Walk) (rolls : map.FinMap 
   record IsRolledFrom (ino : ℕ) (roll : Roll) : Type 0 where
     place : ℕ
     mark : IsLastMark ino place
-    at : IsRollAt image point walk place ino roll
+    at : IsRollAt image ckpt walk place ino roll
 
   rolled_from : (ino : ℕ) (roll : Roll) → map.get rolls ino ≡ Some roll → IsRolledFrom ino roll
-  rolled_from ino roll there = by (last_mark_before (chain image point) (length (chain image point)) ino) refl (subst (λ (o : Option Roll). IsRoll image point walk ino (last_mark_before (chain image point) (length (chain image point)) ino) o) there (are ino))
+  rolled_from ino roll there = by (last_mark_before (chain image ckpt) (length (chain image ckpt)) ino) refl (subst (λ (o : Option Roll). IsRoll image ckpt walk ino (last_mark_before (chain image ckpt) (length (chain image ckpt)) ino) o) there (are ino))
     where
-      by : (o : Option ℕ) → last_mark_before (chain image point) (length (chain image point)) ino ≡ o → IsRoll image point walk ino o (Some roll) → IsRolledFrom ino roll
+      by : (o : Option ℕ) → last_mark_before (chain image ckpt) (length (chain image ckpt)) ino ≡ o → IsRoll image ckpt walk ino o (Some roll) → IsRolledFrom ino roll
       by None e is = absurd is
-      by (Some place) e is = let found = last_is (chain image point) ino (length (chain image point)) place e in record { place = place; mark = record { within = found.0; is = found.1 }; at = is }
+      by (Some place) e is = let found = last_is (chain image ckpt) ino (length (chain image ckpt)) place e in record { place = place; mark = record { within = found.0; is = found.1 }; at = is }
 
   -- the block of a direct node up to a mark of its file is taken
-  direct_taken : (ino place offset q : ℕ) → IsLastMark ino place → q ≤ place → IsNodeAt (chain image point) ino offset q → IsDirect offset → IsTaken image point q (block_in (chain image point) q)
+  direct_taken : (ino place offset q : ℕ) → IsLastMark ino place → q ≤ place → IsNodeAt (chain image ckpt) ino offset q → IsDirect offset → IsTaken image ckpt q (block_in (chain image ckpt) q)
   direct_taken ino place offset q m low is d =
       direct
-      (record { stands = refl; mark = place; inode = block_in (chain image point) place; later = low; marked = mark_at ino place m; same = m.is.own ∙ sym is.own })
+      (record { stands = refl; mark = place; inode = block_in (chain image ckpt) place; later = low; marked = mark_at ino place m; same = m.is.own ∙ sym is.own })
       (subst IsDirect (sym is.offset_is) d)
 
-  of_taken : (ino offset place : ℕ) (told : NodeAt) → IsTaken image point place (block_in (chain image point) place) → IsNodeAt (chain image point) ino offset place → told ≡ node_in (chain image point) place → IsOfTaken image point ino offset told
-  of_taken ino offset place told taken is same = record { place = place; taken = taken; own = is.own; offset_is = is.offset_is; node_is = same; right = right place (block_in (chain image point) place) taken }
+  of_taken : (ino offset place : ℕ) (told : NodeAt) → IsTaken image ckpt place (block_in (chain image ckpt) place) → IsNodeAt (chain image ckpt) ino offset place → told ≡ node_in (chain image ckpt) place → IsOfTaken image ckpt ino offset told
+  of_taken ino offset place told taken is same = record { place = place; taken = taken; own = is.own; offset_is = is.offset_is; node_is = same; right = right place (block_in (chain image ckpt) place) taken }
 
   -- each node that is told
   module _ (ino offset : ℕ) (told : NodeAt) (has : TellsNode rolls ino offset told) (from : IsRolledFrom ino has.roll) where
-    of_inode : offset ≡ 0 → IsOfTaken image point ino offset told
+    of_inode : offset ≡ 0 → IsOfTaken image ckpt ino offset told
     of_inode top =
-        let m : IsMark (chain image point) ino from.place = from.mark.is in
+        let m : IsMark (chain image ckpt) ino from.place = from.mark.is in
         of_taken ino offset from.place told (marked (mark_at ino from.place from.mark)) (record { own = m.own; offset_is = top_of _ m.marked ∙ sym top })
         (same_Some _ _ (sym has.tells ∙ ap (map.get has.roll.nodes) top ∙ from.at.nodes.inode))
 
-    of_direct : IsDirect offset → (o : Option ℕ) → last_node_before (chain image point) (from.place + 1) ino offset ≡ o → IsOfTaken image point ino offset told
-    of_direct d None e = absurd (not_none told (sym (from.at.nodes.direct offset d ∙ ap (λ o. option_map (node_in (chain image point)) o) e) ∙ has.tells))
+    of_direct : IsDirect offset → (o : Option ℕ) → last_node_before (chain image ckpt) (from.place + 1) ino offset ≡ o → IsOfTaken image ckpt ino offset told
+    of_direct d None e = absurd (not_none told (sym (from.at.nodes.direct offset d ∙ ap (λ o. option_map (node_in (chain image ckpt)) o) e) ∙ has.tells))
     of_direct d (Some q) e =
-        let found = last_node_is (chain image point) ino offset (from.place + 1) q e in
+        let found = last_node_is (chain image ckpt) ino offset (from.place + 1) q e in
         of_taken ino offset q told (direct_taken ino from.place offset q from.mark (omega (arith, found.0)) found.1 d) found.1
-        (same_Some _ _ (sym has.tells ∙ from.at.nodes.direct offset d ∙ ap (λ o. option_map (node_in (chain image point)) o) e))
+        (same_Some _ _ (sym has.tells ∙ from.at.nodes.direct offset d ∙ ap (λ o. option_map (node_in (chain image ckpt)) o) e))
 
-    by_offset : (offset ≡ 0) ⊎ (offset ≢ 0) → IsDirect offset ⊎ ((number : ℕ) → number < direct_limit → nth_direct number ≢ offset) → IsOfTaken image point ino offset told
+    by_offset : (offset ≡ 0) ⊎ (offset ≢ 0) → IsDirect offset ⊎ ((number : ℕ) → number < direct_limit → nth_direct number ≢ offset) → IsOfTaken image ckpt ino offset told
     by_offset (inl top) d = of_inode top
-    by_offset (inr some) (inl d) = of_direct d (last_node_before (chain image point) (from.place + 1) ino offset) refl
+    by_offset (inr some) (inl d) = of_direct d (last_node_before (chain image ckpt) (from.place + 1) ino offset) refl
     by_offset (inr some) (inr none) = absurd (not_none told (sym (from.at.nodes.others offset some (λ d. none d.number d.within d.is)) ∙ has.tells))
 
   -- each last block
-  last_mark_of : (ino place : ℕ) → place < length (chain image point) → IsMark (chain image point) ino place → (last : ℕ) × ((last_mark_before (chain image point) (length (chain image point)) ino ≡ Some last) × (place ≤ last) × IsLastMark ino last)
+  last_mark_of : (ino place : ℕ) → place < length (chain image ckpt) → IsMark (chain image ckpt) ino place → (last : ℕ) × ((last_mark_before (chain image ckpt) (length (chain image ckpt)) ino ≡ Some last) × (place ≤ last) × IsLastMark ino last)
   last_mark_of ino place within is =
-      let found = last_from (chain image point) ino (length (chain image point)) place within is in
-      let mark = last_is (chain image point) ino (length (chain image point)) found.0 found.1.0 in
+      let found = last_from (chain image ckpt) ino (length (chain image ckpt)) place within is in
+      let mark = last_is (chain image ckpt) ino (length (chain image ckpt)) found.0 found.1.0 in
       (found.0, (found.1.0, found.1.1, record { within = mark.0; is = mark.1 }))
 
   -- the roll of a file whose last mark is there
   record HasRollAt (ino place : ℕ) : Type 0 where
     roll : Roll
     there : map.get rolls ino ≡ Some roll
-    at : IsRollAt image point walk place ino roll
+    at : IsRollAt image ckpt walk place ino roll
 
-  roll_at : (ino place : ℕ) → last_mark_before (chain image point) (length (chain image point)) ino ≡ Some place → HasRollAt ino place
-  roll_at ino place e = by (map.get rolls ino) refl (subst (λ (o : Option ℕ). IsRoll image point walk ino o (map.get rolls ino)) e (are ino))
+  roll_at : (ino place : ℕ) → last_mark_before (chain image ckpt) (length (chain image ckpt)) ino ≡ Some place → HasRollAt ino place
+  roll_at ino place e = by (map.get rolls ino) refl (subst (λ (o : Option ℕ). IsRoll image ckpt walk ino o (map.get rolls ino)) e (are ino))
     where
-      by : (r : Option Roll) → map.get rolls ino ≡ r → IsRoll image point walk ino (Some place) r → HasRollAt ino place
+      by : (r : Option Roll) → map.get rolls ino ≡ r → IsRoll image ckpt walk ino (Some place) r → HasRollAt ino place
       by None f is = absurd is
       by (Some roll) f is = record { roll = roll; there = f; at = is }
 
-  tells_mark : (place : ℕ) (block : List ℕ) → IsLastTaken image point place block → IsMarkedAt image point place block → TellsNode rolls (footer_ino block) (footer_offset block) (node_in (chain image point) place)
+  tells_mark : (place : ℕ) (block : List ℕ) → IsLastTaken image ckpt place block → IsMarkedAt image ckpt place block → TellsNode rolls (footer_ino block) (footer_offset block) (node_in (chain image ckpt) place)
   tells_mark place block last m =
       let ino = footer_ino block in
-      let here : IsMark (chain image point) (footer_ino block) place = record { marked = ap is_marked (sym m.stands) ∙ m.marked; own = ap footer_ino (sym m.stands) } in
+      let here : IsMark (chain image ckpt) (footer_ino block) place = record { marked = ap is_marked (sym m.stands) ∙ m.marked; own = ap footer_ino (sym m.stands) } in
       let found = last_mark_of (footer_ino block) place m.within here in
       let end : IsLastMark (footer_ino block) found.0 = found.1.2 in
       let top : footer_offset block ≡ 0 = top_of block m.marked in
-      let low = last.last found.0 (block_in (chain image point) found.0) (marked (mark_at (footer_ino block) found.0 end)) end.is.own (top_of _ end.is.marked ∙ sym top) in
+      let low = last.last found.0 (block_in (chain image ckpt) found.0) (marked (mark_at (footer_ino block) found.0 end)) end.is.own (top_of _ end.is.marked ∙ sym top) in
       let same : found.0 ≡ place = omega (arith, low, found.1.1) in
       let roll = roll_at (footer_ino block) place (found.1.0 ∙ ap Some same) in
       record { roll = roll.roll; there = roll.there; tells = ap (map.get roll.roll.nodes) top ∙ roll.at.nodes.inode }
 
-  tells_direct : (place : ℕ) (block : List ℕ) → IsLastTaken image point place block → IsCounted image point place block → IsDirect (footer_offset block) → TellsNode rolls (footer_ino block) (footer_offset block) (node_in (chain image point) place)
+  tells_direct : (place : ℕ) (block : List ℕ) → IsLastTaken image ckpt place block → IsCounted image ckpt place block → IsDirect (footer_offset block) → TellsNode rolls (footer_ino block) (footer_offset block) (node_in (chain image ckpt) place)
   tells_direct place block last counted d =
-      let stands : block ≡ block_in (chain image point) place = counted.stands in
-      let m : IsMarkedAt image point counted.mark counted.inode = counted.marked in
-      let here : IsMark (chain image point) (footer_ino block) counted.mark = record { marked = ap is_marked (sym m.stands) ∙ m.marked; own = ap footer_ino (sym m.stands) ∙ counted.same } in
+      let stands : block ≡ block_in (chain image ckpt) place = counted.stands in
+      let m : IsMarkedAt image ckpt counted.mark counted.inode = counted.marked in
+      let here : IsMark (chain image ckpt) (footer_ino block) counted.mark = record { marked = ap is_marked (sym m.stands) ∙ m.marked; own = ap footer_ino (sym m.stands) ∙ counted.same } in
       let found = last_mark_of (footer_ino block) counted.mark m.within here in
       let end : IsLastMark (footer_ino block) found.0 = found.1.2 in
       let later : place ≤ counted.mark = counted.later in
-      let node : IsNodeAt (chain image point) (footer_ino block) (footer_offset block) place = record { own = ap footer_ino (sym stands); offset_is = ap footer_offset (sym stands) } in
-      let near = last_node_from (chain image point) (footer_ino block) (footer_offset block) (found.0 + 1) place (omega (arith, later, found.1.1)) node in
-      let is = last_node_is (chain image point) (footer_ino block) (footer_offset block) (found.0 + 1) near.0 near.1.0 in
-      let low = last.last near.0 (block_in (chain image point) near.0) (direct_taken (footer_ino block) found.0 (footer_offset block) near.0 end (omega (arith, is.0)) is.1 d) is.1.own is.1.offset_is in
+      let node : IsNodeAt (chain image ckpt) (footer_ino block) (footer_offset block) place = record { own = ap footer_ino (sym stands); offset_is = ap footer_offset (sym stands) } in
+      let near = last_node_from (chain image ckpt) (footer_ino block) (footer_offset block) (found.0 + 1) place (omega (arith, later, found.1.1)) node in
+      let is = last_node_is (chain image ckpt) (footer_ino block) (footer_offset block) (found.0 + 1) near.0 near.1.0 in
+      let low = last.last near.0 (block_in (chain image ckpt) near.0) (direct_taken (footer_ino block) found.0 (footer_offset block) near.0 end (omega (arith, is.0)) is.1 d) is.1.own is.1.offset_is in
       let same : near.0 ≡ place = omega (arith, low, near.1.1) in
       let roll = roll_at (footer_ino block) found.0 found.1.0 in
       record {
         roll = roll.roll;
         there = roll.there;
-        tells = roll.at.nodes.direct (footer_offset block) d ∙ ap (λ o. option_map (node_in (chain image point)) o) (near.1.0 ∙ ap Some same);
+        tells = roll.at.nodes.direct (footer_offset block) d ∙ ap (λ o. option_map (node_in (chain image ckpt)) o) (near.1.0 ∙ ap Some same);
       }
 
-  tells_last : (place : ℕ) (block : List ℕ) → IsLastTaken image point place block → IsTaken image point place block → TellsNode rolls (footer_ino block) (footer_offset block) (node_in (chain image point) place)
+  tells_last : (place : ℕ) (block : List ℕ) → IsLastTaken image ckpt place block → IsTaken image ckpt place block → TellsNode rolls (footer_ino block) (footer_offset block) (node_in (chain image ckpt) place)
   tells_last place block last (marked m) = tells_mark place block last m
   tells_last place block last (direct counted d) = tells_direct place block last counted d
 
-  pub taken_nodes : AreTakenNodes image point rolls
+  pub taken_nodes : AreTakenNodes image ckpt rolls
   taken_nodes = record {
     only = λ ino offset told has. by_offset ino offset told has (rolled_from ino has.roll has.there) (cases_eq offset 0) (direct_below offset direct_limit (omega arith));
     all = λ place block last. tells_last place block last last.taken;

@@ -37,13 +37,13 @@ AreAlikeRolled image (Some row) (Some roll) base = IsRollLike image row roll
 
 abbrev pub RolledRowsAreAlike : Type 0
 RolledRowsAreAlike =
-    (image : Image) (point : Checkpoint) (walk : Walk) (rolls : map.FinMap nat_cmp Roll) (base : Rows) (marks : List Mark) → IsBaseRead image point walk → HasRightMarks image point → AreRolls image point walk rolls
-    → IsBase image point base → AreMarks image point base marks → (ino : ℕ) → AreAlikeRolled image (map.get (rolled base marks) ino) (map.get rolls ino) (map.get walk.rows ino)
+    (image : Image) (ckpt : Checkpoint) (walk : Walk) (rolls : map.FinMap nat_cmp Roll) (base : Rows) (marks : List Mark) → IsBaseRead image ckpt walk → HasRightMarks image ckpt → AreRolls image ckpt walk rolls
+    → IsBase image ckpt base → AreMarks image ckpt base marks → (ino : ℕ) → AreAlikeRolled image (map.get (rolled base marks) ino) (map.get rolls ino) (map.get walk.rows ino)
 
 -- there are as many marks as marked blocks of the node log
 abbrev pub MarksAreMarkedPlaces : Type 0
-MarksAreMarkedPlaces = (image : Image) (point : Checkpoint) (base : Rows) (marks : List Mark) → AreMarks image point base marks → length marks ≡ length (marked_places (chain image point))
+MarksAreMarkedPlaces = (image : Image) (ckpt : Checkpoint) (base : Rows) (marks : List Mark) → AreMarks image ckpt base marks → length marks ≡ length (marked_places (chain image ckpt))
 
 -- an image whose base was read, and whose node log has none of its faults, has a tree
 abbrev pub TreesAreThere : Type 0
-TreesAreThere = (image : Image) (point : Checkpoint) (walk : Walk) → IsBaseRead image point walk → HasNoLogFault image point → (base : Rows) × ((marks : List Mark) × (IsBase image point base × AreMarks image point base marks))
+TreesAreThere = (image : Image) (ckpt : Checkpoint) (walk : Walk) → IsBaseRead image ckpt walk → HasNoLogFault image ckpt → (base : Rows) × ((marks : List Mark) × (IsBase image ckpt base × AreMarks image ckpt base marks))

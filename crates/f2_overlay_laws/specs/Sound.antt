@@ -14,12 +14,12 @@ use Rattle.f2_recover.specs.declared.walk.Walk.{Walk}
 use Rattle.f2_scan.specs.Laws.{HasNoLogFault}
 
 -- the tree of an image fits it
-pub record IsRoomy (image : Image) (point : Checkpoint) : Type 0 where
-  pub nodes : (tree : Rows) → HasTree image point tree → nodes_of_tree tree ≤ node_third point.extent
-  pub blocks : (tree : Rows) → HasTree image point tree → data_of_tree tree ≤ data_third point.extent
+pub record IsRoomy (image : Image) (ckpt : Checkpoint) : Type 0 where
+  pub nodes : (tree : Rows) → HasTree image ckpt tree → nodes_of_tree tree ≤ node_third ckpt.geom
+  pub blocks : (tree : Rows) → HasTree image ckpt tree → data_of_tree tree ≤ data_third ckpt.geom
 
 -- an image is sound where its base was read, its node log has none of its faults, and nids, names and pages of what the log brings are right
 abbrev pub AllRightIsSound : Type 0
 AllRightIsSound =
-    (image : Image) (point : Checkpoint) (walk : Walk) → IsCheckpoint image point → IsBaseRead image point walk → HasNoLogFault image point → HasRightNids image point → IsApart image point
-    → HasRightMarks image point → HasRightPages image point → IsRoomy image point → IsSound image point
+    (image : Image) (ckpt : Checkpoint) (walk : Walk) → IsCheckpoint image ckpt → IsBaseRead image ckpt walk → HasNoLogFault image ckpt → HasRightNids image ckpt → IsApart image ckpt
+    → HasRightMarks image ckpt → HasRightPages image ckpt → IsRoomy image ckpt → IsSound image ckpt

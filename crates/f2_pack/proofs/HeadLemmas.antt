@@ -3,7 +3,7 @@ use Rattle.std.proofs.Common.{◌≡◌, ℕ, ◌+◌, ◌^◌, ◌<◌, ◌≤�
 use Rattle.std.proofs.lemmas.List.{length-replicate}
 use borrow.Rule.Slice.PartMut.{put_mid}
 use Rattle.f2_format.specs.Bytes.{number_at, number_bytes, with_bytes, zeros}
-use Rattle.f2_format.specs.Geometry.{Extent, is_in_node}
+use Rattle.f2_format.specs.Geometry.{ImageGeometry, is_in_node}
 use Rattle.f2_format.specs.Pack.{HeadFields, IsPack, head_block, head_of, unsealed_head}
 use Rattle.f2_format.specs.Seal.{seal_of, seal_of_bytes, stored_seal}
 use Rattle.f2_format.proofs.BytesLemmas.{get_or-with_bytes_before, length-number_bytes, length-with_bytes, number_at-with_bytes_before, slice_range-same, slice_range-with_bytes_same, take-with_bytes_before}
@@ -82,12 +82,12 @@ pub seal_of-sealed : (block seal : List ℕ) → length block ≡ 4096 → seal_
 seal_of-sealed block seal long = ap seal_of_bytes (take-with_bytes_before 4092 block 4092 seal (omega arith) (omega arith))
 
 -- a head whose seal is right makes a valid pack with itself as its tail, where its fields are those of one
-pub IsPack-alone : (extent : Extent) (block : List ℕ) (head : HeadFields) → stored_seal block ≡ seal_of block → head_of block ≡ head → 1 ≤ head.version → head.nat ≡ extent.nat
-    → IsTrue (is_in_node extent head.log_start) → IsPack extent block block
-IsPack-alone extent block head seal is version nat log_start = record {
+pub IsPack-alone : (geom : ImageGeometry) (block : List ℕ) (head : HeadFields) → stored_seal block ≡ seal_of block → head_of block ≡ head → 1 ≤ head.version → head.nat ≡ geom.nat
+    → IsTrue (is_in_node geom head.log_start) → IsPack geom block block
+IsPack-alone geom block head seal is version nat log_start = record {
   seal = seal;
   same = refl;
   version = subst (λ (h : HeadFields). 1 ≤ h.version) (sym is) version;
   nat = ap (λ (h : HeadFields). h.nat) is ∙ nat;
-  log_start = subst (λ (h : HeadFields). IsTrue (is_in_node extent h.log_start)) (sym is) log_start;
+  log_start = subst (λ (h : HeadFields). IsTrue (is_in_node geom h.log_start)) (sym is) log_start;
 }

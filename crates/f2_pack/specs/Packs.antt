@@ -1,7 +1,7 @@
 -- Checkpoint packs as values of the program, the pack of a side of an image, and the newest of two. That there are
 -- two, and that the greater version counts, is F2FS's (f2fs_get_valid_checkpoint of checkpoint.c).
 use Rattle.std.specs.Prelude.{◌≡◌, ℕ, ◌+◌, nat_lt, if◌then◌else◌, List, [], slice_index_or, Option, Some, None}
-use Rattle.f2_format.specs.Geometry.{Extent, PACK_A, PACK_B}
+use Rattle.f2_format.specs.Geometry.{ImageGeometry, PACK_A, PACK_B}
 use Rattle.f2_format.specs.Pack.{HeadFields, IsPack, head_of}
 use Rattle.f2_pack.specs.declared.heads.Head.{Head}
 use Rattle.f2_pack.specs.declared.packs.Pack.{Pack}
@@ -32,13 +32,13 @@ abbrev pub pack_at : List (List ℕ) → ℕ → Pack
 pack_at image start = record { head = value_of (head_of (block_at image start)); summary = block_at image (start + 1) }
 
 -- the pack on a side of an image is valid
-abbrev pub IsValid : Extent → List (List ℕ) → ℕ → Type 0
-IsValid extent image start = IsPack extent (block_at image start) (block_at image (start + 2))
+abbrev pub IsValid : ImageGeometry → List (List ℕ) → ℕ → Type 0
+IsValid geom image start = IsPack geom (block_at image start) (block_at image (start + 2))
 
 -- the pack on a side of an image, and none where that isn't valid
-abbrev pub IsPackOf : Extent → List (List ℕ) → Side → Option Pack → Type 0
-IsPackOf extent image side None = ¬ (IsValid extent image (pack_start side))
-IsPackOf extent image side (Some pack) = IsValid extent image (pack_start side) × (pack ≡ pack_at image (pack_start side))
+abbrev pub IsPackOf : ImageGeometry → List (List ℕ) → Side → Option Pack → Type 0
+IsPackOf geom image side None = ¬ (IsValid geom image (pack_start side))
+IsPackOf geom image side (Some pack) = IsValid geom image (pack_start side) × (pack ≡ pack_at image (pack_start side))
 
 -- the newest of the packs of both sides, with its side: that of the greater version, and A's where both have the same
 abbrev pub newest_of : Option Pack → Option Pack → Option (Pack × Side)

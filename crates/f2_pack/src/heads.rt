@@ -1,7 +1,7 @@
 //! The head of a pack.
 
 ghost use Rattle.std.specs.Prelude.{◌≡◌, ◌≤◌, ◌↔◌, IsTrue};
-ghost use Rattle.f2_format.specs.Geometry.{Extent, is_in_node};
+ghost use Rattle.f2_format.specs.Geometry.{ImageGeometry, is_in_node};
 ghost use Rattle.f2_format.specs.Pack.{IsPack, head_block, head_of};
 ghost use Rattle.f2_pack.specs.Packs.{fields_of, value_of};
 
@@ -42,8 +42,8 @@ pub fn write_head(b: &mut Block, h: &Head, nat: u32)
     ensures written { b.new ≡ head_block (fields_of h.now nat) }
     ensures reads_back { head_of b.new ≡ fields_of h.now nat }
     // Written as head and as tail it makes a pack valid, where its fields are those of one.
-    ensures valid { (extent : Extent) → 1 ≤ h.now.version → nat ≡ extent.nat
-        → IsTrue (is_in_node extent h.now.log_start) → IsPack extent b.new b.new }
+    ensures valid { (geom : ImageGeometry) → 1 ≤ h.now.version → nat ≡ geom.nat
+        → IsTrue (is_in_node geom h.now.log_start) → IsPack geom b.new b.new }
 {
     *b = [0; 4096];
     put64(b, VERSION_AT, h.version);

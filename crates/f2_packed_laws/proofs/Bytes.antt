@@ -56,43 +56,43 @@ module _ (image : Image) (blocks : All IsBlock image) where
   chain_blocks version (suc most) at =
       by_end (at == 0) _ (by_version (footer_version (block_at image at) == version) at (chain_from image version most (footer_next (block_at image at))) (chain_blocks version most (footer_next (block_at image at))))
 
-  chained : (point : Checkpoint) → All HasBytes (chain image point)
+  chained : (ckpt : Checkpoint) → All HasBytes (chain image ckpt)
   unfolding chain
-  chained point = chain_blocks (recovery_version point) (node_third point.extent + 1) point.head.log_start
+  chained ckpt = chain_blocks (recovery_version ckpt) (node_third ckpt.geom + 1) ckpt.head.log_start
 
-  in_chain : (point : Checkpoint) (place : ℕ) → All IsByte (block_in (chain image point) place)
-  in_chain point place = elim (cases_lt place (length (chain image point))) [
-    | inl small ↦ chained point place no_block small
-    | inr past ↦ subst HasBytes (sym (get_or_past (chain image point) place no_block past)) (All-nil IsByte)
+  in_chain : (ckpt : Checkpoint) (place : ℕ) → All IsByte (block_in (chain image ckpt) place)
+  in_chain ckpt place = elim (cases_lt place (length (chain image ckpt))) [
+    | inl small ↦ chained ckpt place no_block small
+    | inr past ↦ subst HasBytes (sym (get_or_past (chain image ckpt) place no_block past)) (All-nil IsByte)
   ]
 
-  module _ (point : Checkpoint) (base : Rows) (marks : List Mark) (means : MeansAt image point base marks) where
+  module _ (ckpt : Checkpoint) (base : Rows) (marks : List Mark) (means : MeansAt image ckpt base marks) where
     base_name : (ino : ℕ) (row : Row) → map.get base ino ≡ Some row → ino ≢ ROOT → All IsByte row.name
     base_name ino row there below =
-        let has : HasName image point ino row = row_has_name image point base means.is_base ino row there below in
+        let has : HasName image ckpt ino row = row_has_name image ckpt base means.is_base ino row there below in
         let at = has.has.2 in
         let own : All IsByte (dentry_at (block_at image at.at) has.has.1).name =
         part (block_at image at.at) (name_start has.has.1) (name_start has.has.1 + dentry_name_length (block_at image at.at) has.has.1) (block_bytes at.at) in
         subst (λ (name : List ℕ). All IsByte name) (ap (λ (d : Dentry). d.name) at.is ∙ has.named) own
 
-    mark_name : (place : ℕ) (mark : Mark) → IsMark image point base (chain image point) place mark → mark.ino ≢ ROOT → All IsByte mark.row.name
+    mark_name : (place : ℕ) (mark : Mark) → IsMark image ckpt base (chain image ckpt) place mark → mark.ino ≢ ROOT → All IsByte mark.row.name
     mark_name place mark is below = by_row (map.get base mark.ino) refl
       where
-        inode_name : All IsByte (take (inode_of (block_in (chain image point) place)).name_length (inode_of (block_in (chain image point) place)).name)
-        inode_name = All-take IsByte (inode_of (block_in (chain image point) place)).name_length (inode_of (block_in (chain image point) place)).name (part (block_in (chain image point) place) INODE_NAME (INODE_NAME + NAME_BYTES) (in_chain point place))
+        inode_name : All IsByte (take (inode_of (block_in (chain image ckpt) place)).name_length (inode_of (block_in (chain image ckpt) place)).name)
+        inode_name = All-take IsByte (inode_of (block_in (chain image ckpt) place)).name_length (inode_of (block_in (chain image ckpt) place)).name (part (block_in (chain image ckpt) place) INODE_NAME (INODE_NAME + NAME_BYTES) (in_chain ckpt place))
 
         by_row : (o : Option Row) → map.get base mark.ino ≡ o → All IsByte mark.row.name
         by_row None e =
-            let named : IsNamed base (block_in (chain image point) place) mark.row None = subst (IsNamed base (block_in (chain image point) place) mark.row) e is.named in
+            let named : IsNamed base (block_in (chain image ckpt) place) mark.row None = subst (IsNamed base (block_in (chain image ckpt) place) mark.row) e is.named in
             subst (All IsByte) (sym named.1) inode_name
         by_row (Some old) e =
-            let named : IsNamed base (block_in (chain image point) place) mark.row (Some old) = subst (IsNamed base (block_in (chain image point) place) mark.row) e is.named in
+            let named : IsNamed base (block_in (chain image ckpt) place) mark.row (Some old) = subst (IsNamed base (block_in (chain image ckpt) place) mark.row) e is.named in
             subst (All IsByte) (sym named.1) (base_name mark.ino old e below)
 
     pub name_bytes : (ino : ℕ) (row : Row) → map.get (rolled base marks) ino ≡ Some row → ino ≢ ROOT → All IsByte row.name
-    name_bytes ino row there below = by_origin (from image point base marks means ino)
+    name_bytes ino row there below = by_origin (from image ckpt base marks means ino)
       where
-        by_origin : Origin image point base ino (rolled base marks) → All IsByte row.name
+        by_origin : Origin image ckpt base ino (rolled base marks) → All IsByte row.name
         by_origin (of_base unmarked same) = base_name ino row (sym same ∙ there) below
         by_origin (of_mark place mark last is own its) =
             subst (λ (r : Row). All IsByte r.name) (same_Some mark.row row (sym its ∙ there)) (mark_name place mark is (λ root. below (sym own ∙ root)))

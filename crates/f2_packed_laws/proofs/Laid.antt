@@ -166,4 +166,4 @@ module _ (base tree : Rows) (keyed : (ino : ℕ) (row : Row) → map.get tree in
   )
 
 pub exist : PackedLayoutsExist
-exist image point base marks means = packed_layout base (rolled base marks) (rolled_keyed image point base marks means)
+exist image ckpt base marks means = packed_layout base (rolled base marks) (rolled_keyed image ckpt base marks means)

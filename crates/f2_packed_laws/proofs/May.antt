@@ -7,7 +7,7 @@ use Rattle.std.proofs.lemmas.List.Elements.{All-weaker}
 use Rattle.std.proofs.lemmas.List.Sums.{sum_by-cons}
 use Rattle.std.proofs.lemmas.Option.{slice_get-get_or}
 use Rattle.f2_format.specs.Offsets.{page_limit}
-use Rattle.f2_format.specs.Geometry.{Extent, IsGeometry, data_third}
+use Rattle.f2_format.specs.Geometry.{ImageGeometry, IsGeometry, data_third}
 use Rattle.f2_format.specs.Inode.{SIZE_LIMIT}
 use Rattle.f2_format.specs.Dentry.{Dentry}
 use Rattle.f2_disk.specs.Contents.{IsBlock}
@@ -40,9 +40,9 @@ use Rattle.f2_packed_laws.proofs.Rolled.{keyed, directory_kept, new_parent, few_
 use Rattle.f2_packed_laws.proofs.Room.{have_room}
 use Rattle.f2_packed_laws.proofs.Whole.{IsByte, IsWritable, packed_whole}
 
-sized_geometry : (image : Image) (extent : Extent) → IsSized image extent → IsGeometry extent
-sized_geometry image extent (by_first right is) = subst IsGeometry (sym is) right.geometry
-sized_geometry image extent (by_second none right is) = subst IsGeometry (sym is) right.geometry
+sized_geometry : (image : Image) (geom : ImageGeometry) → IsSized image geom → IsGeometry geom
+sized_geometry image geom (by_first right is) = subst IsGeometry (sym is) right.geometry
+sized_geometry image geom (by_second none right is) = subst IsGeometry (sym is) right.geometry
 
 -- what is counted of one row is counted of all
 one_counted : (count : Row → ℕ) (row : Row) (rows : List Row) → IsIn row rows → count row ≤ sum_by count rows
@@ -57,15 +57,15 @@ one_counted count row (other ∷ rows) (inr there) =
     omega (arith, sum, rest)
 
 -- a third of a data zone has no page past the limit
-third_within : (extent : Extent) → IsGeometry extent → data_third extent < page_limit
-third_within extent geometry = let most = geometry.most_blocks in omega (arith, most)
+third_within : (geom : ImageGeometry) → IsGeometry geom → data_third geom < page_limit
+third_within geom geometry = let most = geometry.most_blocks in omega (arith, most)
 
-module _ (image : Image) (point : Checkpoint) (base : Rows) (marks : List Mark) (blocks : All IsBlock image) (means : MeansAt image point base marks) (relaid : Relaid) (is : IsPacked base (rolled base marks) relaid) where
-  geometry : IsGeometry point.extent
-  geometry = sized_geometry image point.extent means.checkpoint.sized
+module _ (image : Image) (ckpt : Checkpoint) (base : Rows) (marks : List Mark) (blocks : All IsBlock image) (means : MeansAt image ckpt base marks) (relaid : Relaid) (is : IsPacked base (rolled base marks) relaid) where
+  geometry : IsGeometry ckpt.geom
+  geometry = sized_geometry image ckpt.geom means.checkpoint.sized
 
-  proper : IsProperTree (image_limits point.extent) (rolled base marks)
-  proper = rolled_tree_proper image point base marks blocks means
+  proper : IsProperTree (image_limits ckpt.geom) (rolled base marks)
+  proper = rolled_tree_proper image ckpt base marks blocks means
 
   short : HasShortInos (rolled base marks)
   short ino row there =
@@ -81,7 +81,7 @@ module _ (image : Image) (point : Checkpoint) (base : Rows) (marks : List Mark) 
     writable : (dentry : Dentry) → IsBound (rolled base marks) ino dentry → IsWritable dentry
     writable dentry bound = record {
       fitting = bound_fits SIZE_LIMIT (rolled base marks) proper.good short ino dentry bound;
-      name = subst (All IsByte) bound.named (name_bytes image blocks point base marks means dentry.ino bound.row bound.there bound.below);
+      name = subst (All IsByte) bound.named (name_bytes image blocks ckpt base marks means dentry.ino bound.row bound.there bound.below);
     }
 
     all_blocks : All IsBlock (packed_blocks dentries)
@@ -105,39 +105,39 @@ module _ (image : Image) (point : Checkpoint) (base : Rows) (marks : List Mark) 
     within : (page : ℕ) → IsSome (map.get relaid.pages (ino, page)) → page < page_limit
     within page some =
         let of_base = (is.all ino).0 has in
-        let there = directory_kept image point base marks means ino of_base.0 of_base.1 of_base.2 in
+        let there = directory_kept image ckpt base marks means ino of_base.0 of_base.1 of_base.2 in
         let rows = map.values (rolled base marks) in
-        let own = keyed image point base marks means ino of_base.0 there in
+        let own = keyed image ckpt base marks means ino of_base.0 there in
         let its : data_of_row rows of_base.0 ≡ dentry_blocks rows ino = ap (λ kind. data_of_kind kind rows of_base.0) of_base.2 ∙ ap (dentry_blocks rows) own in
         let counted = one_counted (data_of_row rows) of_base.0 rows (value_in (rolled base marks) ino of_base.0 there) in
-        let few = few_pages image point base marks means in
-        let third = third_within point.extent geometry in
-        let small = few_blocks image point base marks means relaid is ino has page some in
+        let few = few_pages image ckpt base marks means in
+        let third = third_within ckpt.geom geometry in
+        let small = few_blocks image ckpt base marks means relaid is ino has page some in
         omega (arith, its, counted, few, third, small)
 
   may : MayBeRelaid base (rolled base marks) relaid
   may = record {
     kinds = λ ino has. (is.all ino).0 has;
-    named = λ ino row there absent. (is.all row.parent).1 (new_parent image point base marks means ino row there absent);
+    named = λ ino row there absent. (is.all row.parent).1 (new_parent image ckpt base marks means ino row there absent);
     pages = λ ino page at there. (let own = is.only ino page at there in (own.0, within ino own.0 page (ap is_some there), own.1));
     names = names;
     blocks = λ ino page has there. its_block ino has page there;
   }
 
 pub may_be_taken : PackedLayoutsMayBeTaken
-may_be_taken image point base marks relaid blocks means is = may image point base marks blocks means relaid is
+may_be_taken image ckpt base marks relaid blocks means is = may image ckpt base marks blocks means relaid is
 
 -- base and marks of two images are taken over of the one, where the other's blocks are whole
-taken_by : (image whole : Image) (point other : Checkpoint) (base : Rows) (marks : List Mark) → MeansAt image point base marks → All IsBlock whole → MeansAt whole other base marks
-    → (places : Places) × ((unwritten : Unwritten) × IsTakenOver image point base marks (rolled base marks) places unwritten)
-taken_by image whole point other base marks means blocks same =
-    let layout = exist image point base marks means in
-    taken_over image point base marks layout.0 means (may_be_taken whole other base marks layout.0 blocks same layout.1) (have_room image point base marks layout.0 means layout.1)
+taken_by : (image whole : Image) (ckpt other : Checkpoint) (base : Rows) (marks : List Mark) → MeansAt image ckpt base marks → All IsBlock whole → MeansAt whole other base marks
+    → (places : Places) × ((unwritten : Unwritten) × IsTakenOver image ckpt base marks (rolled base marks) places unwritten)
+taken_by image whole ckpt other base marks means blocks same =
+    let layout = exist image ckpt base marks means in
+    taken_over image ckpt base marks layout.0 means (may_be_taken whole other base marks layout.0 blocks same layout.1) (have_room image ckpt base marks layout.0 means layout.1)
 
 pub sound_taken_over : SoundImagesAreTakenOver
-sound_taken_over image point base marks blocks means = taken_by image image point point base marks means blocks means
+sound_taken_over image ckpt base marks blocks means = taken_by image image ckpt ckpt base marks means blocks means
 
 pub kept_taken_over : KeptTreesAreTakenOver
 kept_taken_over lists layout state packs keeps none =
-    taken_by layout.base.image (image lists layout state packs keeps none) layout.base.point (left lists layout state packs keeps none).point state.base state.marks keeps.base.means
+    taken_by layout.base.image (image lists layout state packs keeps none) layout.base.ckpt (left lists layout state packs keeps none).ckpt state.base state.marks keeps.base.means
     (image_blocks lists layout state packs keeps none) (image_means lists layout state packs keeps none)

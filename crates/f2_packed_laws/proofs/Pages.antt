@@ -53,13 +53,13 @@ file_page tree row page kind some = subst (λ k. IsIn page (page_numbers k (map.
 directory_page : (tree : Rows) (row : Row) (page : ℕ) → row.kind ≡ Directory → page < dentry_blocks (map.values tree) row.ino → IsIn page (page_numbers row.kind (map.values tree) row)
 directory_page tree row page kind small = subst (λ k. IsIn page (page_numbers k (map.values tree) row)) (sym kind) (subst (λ k. IsIn k (range_with_len 0 (dentry_blocks (map.values tree) row.ino))) (omega arith) (in_range 0 (dentry_blocks (map.values tree) row.ino) page small))
 
-module _ (image : Image) (point : Checkpoint) (base : Rows) (marks : List Mark) (means : MeansAt image point base marks) (relaid : Relaid) (is : IsPacked base (rolled base marks) relaid) where
+module _ (image : Image) (ckpt : Checkpoint) (base : Rows) (marks : List Mark) (means : MeansAt image ckpt base marks) (relaid : Relaid) (is : IsPacked base (rolled base marks) relaid) where
   -- the base's
-  module _ (ino page at : ℕ) (out : set.contains relaid.directories ino ≡ false) (unmarked : IsUnmarked image point ino) (its : IsBasePage image point ino page at) where
+  module _ (ino page at : ℕ) (out : set.contains relaid.directories ino ≡ false) (unmarked : IsUnmarked image ckpt ino) (its : IsBasePage image ckpt ino page at) where
     row : (row : Row) × (map.get base ino ≡ Some row)
-    row = row_of image point means.sound base means.is_base ino its.reached
+    row = row_of image ckpt means.sound base means.is_base ino its.reached
 
-    own : IsBaseRow image point ino row.0
+    own : IsBaseRow image ckpt ino row.0
     own = means.is_base.rows ino row.0 row.1
 
     not_out : row.0.kind ≡ Directory → ⊥
@@ -67,9 +67,9 @@ module _ (image : Image) (point : Checkpoint) (base : Rows) (marks : List Mark) 
 
     base_page : row.0.kind ≡ Regular → IsSome (map.get row.0.pages page)
     base_page kind =
-        let content : HasContent image point own.inode Regular row.0 = subst (λ k. HasContent image point own.inode k row.0) kind own.content in
+        let content : HasContent image ckpt own.inode Regular row.0 = subst (λ k. HasContent image ckpt own.inode k row.0) kind own.content in
         let same : own.inode ≡ its.inode = same_some own.inode its.inode (sym own.is.there ∙ its.is.there) in
-        let address : page_address image point own.inode page ≡ at = ap (λ inode. page_address image point inode page) same ∙ its.address in
+        let address : page_address image ckpt own.inode page ≡ at = ap (λ inode. page_address image ckpt inode page) same ∙ its.address in
         ap is_some (content.1 page its.within ∙ ap (block_there image) address) ∙ some_block image at its.there
 
     base_listed : IsIn page (page_numbers row.0.kind (map.values (rolled base marks)) row.0)
@@ -80,33 +80,33 @@ module _ (image : Image) (point : Checkpoint) (base : Rows) (marks : List Mark) 
         by_kind Directory e = absurd (not_out e)
 
     kept_page : IsRowPage (rolled base marks) ino page
-    kept_page = by_origin (from image point base marks means ino)
+    kept_page = by_origin (from image ckpt base marks means ino)
       where
-        by_origin : Origin image point base ino (rolled base marks) → IsRowPage (rolled base marks) ino page
+        by_origin : Origin image ckpt base ino (rolled base marks) → IsRowPage (rolled base marks) ino page
         by_origin (of_base none same) = record { row = row.0; there = same ∙ row.1; listed = base_listed }
-        by_origin (of_mark place mark last at_mark of_ino there) = absurd (unmarked place (block_in (chain image point) place) last.marked last.own)
+        by_origin (of_mark place mark last at_mark of_ino there) = absurd (unmarked place (block_in (chain image ckpt) place) last.marked last.own)
 
   -- those of a mark
-  module _ (ino place page at : ℕ) (last : IsLastMark image point ino place) (within : page < page_limit) (address : marked_address image point (chain image point) place page ≡ at) (some : at ≢ 0) where
-    one_place : (other : ℕ) → IsLastMark image point ino other → other ≡ place
+  module _ (ino place page at : ℕ) (last : IsLastMark image ckpt ino place) (within : page < page_limit) (address : marked_address image ckpt (chain image ckpt) place page ≡ at) (some : at ≢ 0) where
+    one_place : (other : ℕ) → IsLastMark image ckpt ino other → other ≡ place
     one_place other later =
-        let one = last.last other (block_in (chain image point) other) later.marked later.own in
-        let two = later.last place (block_in (chain image point) place) last.marked last.own in
+        let one = last.last other (block_in (chain image ckpt) other) later.marked later.own in
+        let two = later.last place (block_in (chain image ckpt) place) last.marked last.own in
         omega (arith, one, two)
 
-    marked_some : (other : ℕ) (mark : Mark) → IsLastMark image point ino other → IsMark image point base (chain image point) other mark → IsSome (map.get mark.row.pages page)
+    marked_some : (other : ℕ) (mark : Mark) → IsLastMark image ckpt ino other → IsMark image ckpt base (chain image ckpt) other mark → IsSome (map.get mark.row.pages page)
     marked_some other mark later its =
-        ap is_some (its.pages.blocks page within ∙ ap (block_there image) (ap (λ k. marked_address image point (chain image point) k page) (one_place other later) ∙ address)) ∙ some_block image at some
+        ap is_some (its.pages.blocks page within ∙ ap (block_there image) (ap (λ k. marked_address image ckpt (chain image ckpt) k page) (one_place other later) ∙ address)) ∙ some_block image at some
 
     marked_page : IsRowPage (rolled base marks) ino page
-    marked_page = by_origin (from image point base marks means ino)
+    marked_page = by_origin (from image ckpt base marks means ino)
       where
-        by_origin : Origin image point base ino (rolled base marks) → IsRowPage (rolled base marks) ino page
-        by_origin (of_base none same) = absurd (none place (block_in (chain image point) place) last.marked last.own)
+        by_origin : Origin image ckpt base ino (rolled base marks) → IsRowPage (rolled base marks) ino page
+        by_origin (of_base none same) = absurd (none place (block_in (chain image ckpt) place) last.marked last.own)
         by_origin (of_mark other mark later its of_ino there) = record {
           row = mark.row;
           there = there;
-          listed = file_page (rolled base marks) mark.row page (regular image point means.sound base means.is_base other mark its later.marked) (marked_some other mark later its);
+          listed = file_page (rolled base marks) mark.row page (regular image ckpt means.sound base means.is_base other mark its later.marked) (marked_some other mark later its);
         }
 
   -- and those of a directory
@@ -120,15 +120,15 @@ module _ (image : Image) (point : Checkpoint) (base : Rows) (marks : List Mark) 
     pub laid_page : (page : ℕ) → IsSome (map.get relaid.pages (ino, page)) → IsRowPage (rolled base marks) ino page
     laid_page page some =
         let of_base_row = (is.all ino).0 has in
-        let there = directory_kept image point base marks means ino of_base_row.0 of_base_row.1 of_base_row.2 in
-        let own = keyed image point base marks means ino of_base_row.0 there in
+        let there = directory_kept image ckpt base marks means ino of_base_row.0 of_base_row.1 of_base_row.2 in
+        let own = keyed image ckpt base marks means ino of_base_row.0 there in
         record {
           row = of_base_row.0;
           there = there;
           listed = directory_page (rolled base marks) of_base_row.0 page of_base_row.2 (subst (λ n. page < dentry_blocks (map.values (rolled base marks)) n) (sym own) (few_blocks page some));
         }
 
-  pub row_page : (ino page at : ℕ) → IsTreePage image point relaid ino page at → IsRowPage (rolled base marks) ino page
+  pub row_page : (ino page at : ℕ) → IsTreePage image ckpt relaid ino page at → IsRowPage (rolled base marks) ino page
   row_page ino page at (kept out unmarked its) = kept_page ino page at out unmarked its
   row_page ino page at (marked place last within address some) = marked_page ino place page at last within address some
   row_page ino page at (laid there) = laid_page ino (is.only ino page at there).0 page (ap is_some there)

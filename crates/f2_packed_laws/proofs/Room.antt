@@ -25,7 +25,7 @@ use Rattle.f2_packed_laws.specs.Packed.{IsPacked, PackedLayoutsHaveRoom}
 use Rattle.f2_packed_laws.proofs.Rolled.{few_nodes, few_pages}
 use Rattle.f2_packed_laws.proofs.Pages.{row_page}
 
-module _ (image : Image) (point : Checkpoint) (base : Rows) (marks : List Mark) (means : MeansAt image point base marks) (relaid : Relaid) (is : IsPacked base (rolled base marks) relaid) where
+module _ (image : Image) (ckpt : Checkpoint) (base : Rows) (marks : List Mark) (means : MeansAt image ckpt base marks) (relaid : Relaid) (is : IsPacked base (rolled base marks) relaid) where
   abbrev tree : Rows
   tree = rolled base marks
 
@@ -36,9 +36,9 @@ module _ (image : Image) (point : Checkpoint) (base : Rows) (marks : List Mark) 
   row_offsets e = offsets (row_pages e)
 
   -- each page is one that its row has
-  page_listed : (at : ℕ × ℕ) → IsSomeTreePage image point relaid at → IsIn at (pairs_of row_pages (map.entries tree))
+  page_listed : (at : ℕ × ℕ) → IsSomeTreePage image ckpt relaid at → IsIn at (pairs_of row_pages (map.entries tree))
   page_listed at (address, page) =
-      let of = row_page image point base marks means relaid is at.0 at.1 address page in
+      let of = row_page image ckpt base marks means relaid is at.0 at.1 address page in
       in_flat_map (λ (e : ℕ × Row). with_first e.0 (row_pages e)) (at.0, of.row) at (map.entries tree) (entry_in tree at.0 of.row of.there) (in_map (λ (n : ℕ). (at.0, n)) at.1 (row_pages (at.0, of.row)) of.listed)
 
   -- each node is one that its row's pages need
@@ -47,10 +47,10 @@ module _ (image : Image) (point : Checkpoint) (base : Rows) (marks : List Mark) 
       in_flat_map (λ (e : ℕ × Row). with_first e.0 (row_offsets e)) (at.0, row) at (map.entries tree) (entry_in tree at.0 row there)
       (in_map (λ (n : ℕ). (at.0, n)) at.1 (row_offsets (at.0, row)) (in_once at.1 (offsets_of (row_pages (at.0, row))) offset))
 
-  node_listed : (at : ℕ × ℕ) → IsTreeNode image point tree relaid at → IsIn at (pairs_of row_offsets (map.entries tree))
+  node_listed : (at : ℕ × ℕ) → IsTreeNode image ckpt tree relaid at → IsIn at (pairs_of row_offsets (map.entries tree))
   node_listed at (inode first some) = let row = the_one (map.get tree at.0) some in offset_listed at row.0 row.1 (inl first)
   node_listed at (on_way page address its way) =
-      let of = row_page image point base marks means relaid is at.0 page address its in
+      let of = row_page image ckpt base marks means relaid is at.0 page address its in
       offset_listed at of.row of.there (inr (in_flat_map nodes_of_page page at.1 (row_pages (at.0, of.row)) of.listed (from_contains (nodes_of_page page) at.1 way)))
 
   nodes_counted : length (pairs_of row_offsets (map.entries tree)) ≡ nodes_of_tree tree
@@ -59,26 +59,26 @@ module _ (image : Image) (point : Checkpoint) (base : Rows) (marks : List Mark) 
   pages_counted : length (pairs_of row_pages (map.entries tree)) ≡ data_of_tree tree
   pages_counted = length-pairs row_pages (data_of_row (map.values tree)) (λ e. length-pages e.1.kind (map.values tree) e.1) (map.entries tree)
 
-  no_more_nodes : ¬ (HasMore (ℕ × ℕ) (IsTreeNode image point tree relaid) (node_third point.extent))
+  no_more_nodes : ¬ (HasMore (ℕ × ℕ) (IsTreeNode image ckpt tree relaid) (node_third ckpt.geom))
   no_more_nodes more =
-      let all = all_of (IsTreeNode image point tree relaid) (λ at. IsIn at (pairs_of row_offsets (map.entries tree))) node_listed more.some more.all in
+      let all = all_of (IsTreeNode image ckpt tree relaid) (λ at. IsIn at (pairs_of row_offsets (map.entries tree))) node_listed more.some more.all in
       let few = no_more more.some (pairs_of row_offsets (map.entries tree)) more.differ all in
       let past = more.more in
-      let third = few_nodes image point base marks means in
+      let third = few_nodes image ckpt base marks means in
       let counted = nodes_counted in
       omega (arith, few, past, third, counted)
 
-  no_more_pages : ¬ (HasMore (ℕ × ℕ) (IsSomeTreePage image point relaid) (data_third point.extent))
+  no_more_pages : ¬ (HasMore (ℕ × ℕ) (IsSomeTreePage image ckpt relaid) (data_third ckpt.geom))
   no_more_pages more =
-      let all = all_of (IsSomeTreePage image point relaid) (λ at. IsIn at (pairs_of row_pages (map.entries tree))) page_listed more.some more.all in
+      let all = all_of (IsSomeTreePage image ckpt relaid) (λ at. IsIn at (pairs_of row_pages (map.entries tree))) page_listed more.some more.all in
       let few = no_more more.some (pairs_of row_pages (map.entries tree)) more.differ all in
       let past = more.more in
-      let third = few_pages image point base marks means in
+      let third = few_pages image ckpt base marks means in
       let counted = pages_counted in
       omega (arith, few, past, third, counted)
 
-  room : HasRoomFor image point tree relaid
+  room : HasRoomFor image ckpt tree relaid
   room = record { nodes = no_more_nodes; pages = no_more_pages }
 
 pub have_room : PackedLayoutsHaveRoom
-have_room image point base marks relaid means is = room image point base marks means relaid is
+have_room image ckpt base marks relaid means is = room image ckpt base marks means relaid is

@@ -39,17 +39,17 @@ pub record IsPacked (base tree : Rows) (relaid : Relaid) : Type 0 where
 -- would break it: a mark may bring a name
 abbrev pub PackedLayoutsExist : Type 0
 PackedLayoutsExist =
-    (image : Image) (point : Checkpoint) (base : Rows) (marks : List Mark) →
-    MeansAt image point base marks →
+    (image : Image) (ckpt : Checkpoint) (base : Rows) (marks : List Mark) →
+    MeansAt image ckpt base marks →
     (relaid : Relaid) × IsPacked base (rolled base marks) relaid
 
 -- such a layout may be taken for that tree, where the image is one of whole blocks; a name of other numbers than bytes would have no block
 -- that could be written. A definition by which the root isn't laid out anew would break it: a mark may bring a name into it
 abbrev pub PackedLayoutsMayBeTaken : Type 0
 PackedLayoutsMayBeTaken =
-    (image : Image) (point : Checkpoint) (base : Rows) (marks : List Mark) (relaid : Relaid) →
+    (image : Image) (ckpt : Checkpoint) (base : Rows) (marks : List Mark) (relaid : Relaid) →
     All IsBlock image →
-    MeansAt image point base marks →
+    MeansAt image ckpt base marks →
     IsPacked base (rolled base marks) relaid →
     MayBeRelaid base (rolled base marks) relaid
 
@@ -57,19 +57,19 @@ PackedLayoutsMayBeTaken =
 -- break it: few names may lie in many of them
 abbrev pub PackedLayoutsHaveRoom : Type 0
 PackedLayoutsHaveRoom =
-    (image : Image) (point : Checkpoint) (base : Rows) (marks : List Mark) (relaid : Relaid) →
-    MeansAt image point base marks →
+    (image : Image) (ckpt : Checkpoint) (base : Rows) (marks : List Mark) (relaid : Relaid) →
+    MeansAt image ckpt base marks →
     IsPacked base (rolled base marks) relaid →
-    HasRoomFor image point (rolled base marks) relaid
+    HasRoomFor image ckpt (rolled base marks) relaid
 
 -- so there is a way to take over the tree of each sound image of whole blocks, whatever its marks. A definition that lets a mount lay out no
 -- directory anew would break it: a mark may bring a name
 abbrev pub SoundImagesAreTakenOver : Type 0
 SoundImagesAreTakenOver =
-    (image : Image) (point : Checkpoint) (base : Rows) (marks : List Mark) →
+    (image : Image) (ckpt : Checkpoint) (base : Rows) (marks : List Mark) →
     All IsBlock image →
-    MeansAt image point base marks →
-    (places : Places) × ((unwritten : Unwritten) × IsTakenOver image point base marks (rolled base marks) places unwritten)
+    MeansAt image ckpt base marks →
+    (places : Places) × ((unwritten : Unwritten) × IsTakenOver image ckpt base marks (rolled base marks) places unwritten)
 
 -- and so there is a way to take over what a disk keeps with no checkpoint pending: base and marks, at the image that the disk holds. A
 -- definition of such a disk whose contents needn't be whole would break it: a name might have no block
@@ -79,4 +79,4 @@ KeptTreesAreTakenOver =
     KeepsPacks lists layout state →
     KeepsImage lists layout state →
     layout.pending ≡ None →
-    (places : Places) × ((unwritten : Unwritten) × IsTakenOver layout.base.image layout.base.point state.base state.marks (rolled state.base state.marks) places unwritten)
+    (places : Places) × ((unwritten : Unwritten) × IsTakenOver layout.base.image layout.base.ckpt state.base state.marks (rolled state.base state.marks) places unwritten)

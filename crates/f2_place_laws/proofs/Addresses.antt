@@ -21,53 +21,53 @@ use Rattle.f2_place_laws.proofs.NoLog.{none_within, none_marked, of_base}
 use Rattle.f2_place_laws.proofs.Nodes.{placed, page_placed}
 use Rattle.f2_place_laws.proofs.Table.{at_place}
 
-module _ (image : Image) (point : Checkpoint) (tree : Rows) (places : Places) (is : IsStood image point tree places) where
+module _ (image : Image) (ckpt : Checkpoint) (tree : Rows) (places : Places) (is : IsStood image ckpt tree places) where
   -- the inodes
-  not_odd : (ino : ℕ) (block : List ℕ) → IsReached image point ino → node image point ino ≡ Some block → IsForeign block → ⊥
+  not_odd : (ino : ℕ) (block : List ℕ) → IsReached image ckpt ino → node image ckpt ino ≡ Some block → IsForeign block → ⊥
   not_odd ino block reach there bad =
-      let row = in_tree image point tree places is ino reach in
-      let at = home_of image point tree places is ino row.0 row.1 in
-      let same : block ≡ inode_block image point tree places is ino row.0 at = same_some block _ (sym there ∙ node_is image point tree places is ino row.0 at) in
+      let row = in_tree image ckpt tree places is ino reach in
+      let at = home_of image ckpt tree places is ino row.0 row.1 in
+      let same : block ≡ inode_block image ckpt tree places is ino row.0 at = same_some block _ (sym there ∙ node_is image ckpt tree places is ino row.0 at) in
       at.inode.own (subst IsForeign same bad)
 
-  pub right_inode : (at : ℕ) → IsBadInode image point at → ⊥
+  pub right_inode : (at : ℕ) → IsBadInode image ckpt at → ⊥
   right_inode at (faults.in_base read ino block reach there address odd) = not_odd ino block reach there odd
-  right_inode at (faults.in_log place block marked address odd) = none_marked image point is.none place block marked
+  right_inode at (faults.in_log place block marked address odd) = none_marked image ckpt is.none place block marked
 
   -- the blocks of directories
-  pub right_dentries : (at : ℕ) → HasDentryFault image point at → ⊥
+  pub right_dentries : (at : ℕ) → HasDentryFault image ckpt at → ⊥
   right_dentries at bad =
-      let row = in_tree image point tree places is bad.directory bad.reached in
-      let here = home_of image point tree places is bad.directory row.0 row.1 in
-      let found = block_found image point tree places is bad.directory row.0 here bad.page at bad.block in
-      let right = (dentries_there image point tree places is bad.directory row.0 here found.1 bad.page (λ none. bad.block.there (sym found.0 ∙ none))).0 in
+      let row = in_tree image ckpt tree places is bad.directory bad.reached in
+      let here = home_of image ckpt tree places is bad.directory row.0 row.1 in
+      let found = block_found image ckpt tree places is bad.directory row.0 here bad.page at bad.block in
+      let right = (dentries_there image ckpt tree places is bad.directory row.0 here found.1 bad.page (λ none. bad.block.there (sym found.0 ∙ none))).0 in
       none-some bad.slot (sym right ∙ ap (λ n. dentry_fault (block_at image n)) found.0 ∙ bad.fault)
 
   -- addresses
-  pub right_zones : (at : ℕ) → IsOutOfZone image point at → ⊥
+  pub right_zones : (at : ℕ) → IsOutOfZone image ckpt at → ⊥
   right_zones at (faults.page read ino page is_page outside) =
-      let told = page_placed image point tree places is ino page at (of_base image point is.none ino page at is_page) in
+      let told = page_placed image ckpt tree places is ino page at (of_base image ckpt is.none ino page at is_page) in
       true≢false (sym (is.stands.pages ino page at told).in_zone ∙ outside)
-  right_zones at (faults.next place within next some outside) = none_within image point is.none place within
+  right_zones at (faults.next place within next some outside) = none_within image ckpt is.none place within
 
   -- no two have one address
-  pages_apart : (at ino page other more : ℕ) → IsPage image point ino page at → IsPage image point other more at → (ino ≢ other) ⊎ (page ≢ more) → ⊥
+  pages_apart : (at ino page other more : ℕ) → IsPage image ckpt ino page at → IsPage image ckpt other more at → (ino ≢ other) ⊎ (page ≢ more) → ⊥
   pages_apart at ino page other more is_page is_more bad =
-      let one = page_placed image point tree places is ino page at (of_base image point is.none ino page at is_page) in
-      let two = page_placed image point tree places is other more at (of_base image point is.none other more at is_more) in
-      let same = is.stands.laid.pages_apart (ino, page) (other, more) at one two (in_data_some point.extent at (is.stands.pages ino page at one).in_zone) in
+      let one = page_placed image ckpt tree places is ino page at (of_base image ckpt is.none ino page at is_page) in
+      let two = page_placed image ckpt tree places is other more at (of_base image ckpt is.none other more at is_more) in
+      let same = is.stands.laid.pages_apart (ino, page) (other, more) at one two (in_data_some ckpt.geom at (is.stands.pages ino page at one).in_zone) in
       neither (ap (λ (pair : ℕ × ℕ). pair.0) same) (ap (λ (pair : ℕ × ℕ). pair.1) same) bad
 
-  nodes_apart : (at ino offset nid other more own : ℕ) → IsNode image point ino offset nid → IsNode image point other more own → (ino ≢ other) ⊎ (offset ≢ more) → node_address image point nid ≡ at → node_address image point own ≡ at → ⊥
+  nodes_apart : (at ino offset nid other more own : ℕ) → IsNode image ckpt ino offset nid → IsNode image ckpt other more own → (ino ≢ other) ⊎ (offset ≢ more) → node_address image ckpt nid ≡ at → node_address image ckpt own ≡ at → ⊥
   nodes_apart at ino offset nid other more own is_node is_more bad here there =
-      let a = placed image point tree places is ino offset nid is_node in
-      let b = placed image point tree places is other more own is_more in
-      let is_at : a.0.at ≡ b.0.at = sym (at_place image point tree places is ino offset nid a) ∙ here ∙ sym there ∙ at_place image point tree places is other more own b in
-      let some = address_some image point tree places ino offset a.0 (node_is_there image point tree places is ino offset a.0 a.1) in
+      let a = placed image ckpt tree places is ino offset nid is_node in
+      let b = placed image ckpt tree places is other more own is_more in
+      let is_at : a.0.at ≡ b.0.at = sym (at_place image ckpt tree places is ino offset nid a) ∙ here ∙ sym there ∙ at_place image ckpt tree places is other more own b in
+      let some = address_some image ckpt tree places ino offset a.0 (node_is_there image ckpt tree places is ino offset a.0 a.1) in
       let same = is.stands.laid.nodes_apart (ino, offset) (other, more) a.0 b.0 a.1 b.1 some is_at in
       neither (ap (λ (pair : ℕ × ℕ). pair.0) same) (ap (λ (pair : ℕ × ℕ). pair.1) same) bad
 
-  pub not_shared : (at : ℕ) → IsShared image point at → ⊥
+  pub not_shared : (at : ℕ) → IsShared image ckpt at → ⊥
   not_shared at (faults.pages ino page other more is_page is_more bad) = pages_apart at ino page other more is_page is_more bad
   not_shared at (faults.nodes ino offset nid other more own is_node is_more bad some here there) = nodes_apart at ino offset nid other more own is_node is_more bad here there
-  not_shared at (faults.logged ino offset nid place is_node here within there) = none_within image point is.none place within
+  not_shared at (faults.logged ino offset nid place is_node here within there) = none_within image ckpt is.none place within

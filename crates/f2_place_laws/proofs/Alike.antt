@@ -3,7 +3,7 @@ use Rattle.std.proofs.Common.{◌≡◌, ℕ, ◌<◌, List, refl, sym, ◌∙�
 use Rattle.std.specs.Prelude.{Some}
 use Rattle.std.specs.FinMap as map
 use Rattle.f2_format.specs.Offsets.{inode_pages, direct_of}
-use Rattle.f2_format.specs.Geometry.{Extent}
+use Rattle.f2_format.specs.Geometry.{ImageGeometry}
 use Rattle.f2_model.specs.Tree.{Rows}
 use Rattle.f2_model.specs.declared.rows.Row.{Row}
 use Rattle.f2_model.specs.declared.rows.Kind.{Kind}
@@ -21,8 +21,8 @@ module _ (places other : Places) where
       by_kind Regular is = of_regular other row page block is (regular_page places row page block is own)
       by_kind Directory is = let dentries = directory_page places row page block is own in of_directory other row page block is (dentries.0, dentries.1 ∙ sym same)
 
-  module _ (extent : Extent) (tree : Rows) where
-    pub page_here_alike : (ino page at : ℕ) (block : List ℕ) → ((row : Row) → dentries_at other row.ino page ≡ dentries_at places row.ino page) → IsPageHere extent tree places ino page at block → IsPageHere extent tree other ino page at block
+  module _ (geom : ImageGeometry) (tree : Rows) where
+    pub page_here_alike : (ino page at : ℕ) (block : List ℕ) → ((row : Row) → dentries_at other row.ino page ≡ dentries_at places row.ino page) → IsPageHere geom tree places ino page at block → IsPageHere geom tree other ino page at block
     page_here_alike ino page at block same here =
         record { in_zone = here.in_zone; own = λ row there. page_block_alike row page block (same row) (here.own row there) }
 
@@ -35,7 +35,7 @@ module _ (places other : Places) where
     pub node_here_alike : (ino offset : ℕ) (node : NodeAt) (block : List ℕ) → ((low : ℕ) → nid_at other ino low ≡ nid_at places ino low)
         → ((page : ℕ) → direct_of page ≡ Some offset → page_at other ino page ≡ page_at places ino page)
         → (offset ≡ 0 → (row : Row) → map.get tree ino ≡ Some row → (page : ℕ) → page < inode_pages → page_at other row.ino page ≡ page_at places row.ino page)
-        → IsNodeHere extent tree places ino offset node block → IsNodeHere extent tree other ino offset node block
+        → IsNodeHere geom tree places ino offset node block → IsNodeHere geom tree other ino offset node block
     node_here_alike ino offset node block nids pages first here = record {
       in_zone = here.in_zone;
       own = record {

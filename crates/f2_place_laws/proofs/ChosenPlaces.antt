@@ -28,30 +28,30 @@ some_number n some = ap not (ne_eqb n 0 some)
 no_zero : (n : ℕ) → not (n == 0) ≡ true → n ≢ 0
 no_zero n test zero = true≢false (sym test ∙ ap (λ m. not (m == 0)) zero)
 
-module _ (image : Image) (point : Checkpoint) where
+module _ (image : Image) (ckpt : Checkpoint) where
   -- an entry for each nid that has an address
   node_entry : ℕ → (ℕ × ℕ) × NodeAt
-  node_entry nid = (key image point nid, record { nid = nid; at = place image point nid })
+  node_entry nid = (key image ckpt nid, record { nid = nid; at = place image ckpt nid })
 
   given_nids : List ℕ
-  given_nids = filter (λ nid. not (place image point nid == 0)) (numbers_below (nid_limit point.extent))
+  given_nids = filter (λ nid. not (place image ckpt nid == 0)) (numbers_below (nid_limit ckpt.geom))
 
   pub nodes_read : map.FinMap pair_cmp NodeAt
   nodes_read = map.from_entries (map_list node_entry given_nids)
 
   -- a node that is read is that of a nid that has an address
   pub record IsRead (at : ℕ × ℕ) (n : NodeAt) : Type 0 where
-    pub given : IsGiven image point n.nid
-    pub key_is : key image point n.nid ≡ at
-    pub place_is : place image point n.nid ≡ n.at
+    pub given : IsGiven image ckpt n.nid
+    pub key_is : key image ckpt n.nid ≡ at
+    pub place_is : place image ckpt n.nid ≡ n.at
 
   -- an entry of a node is right
   node_right : (at : ℕ × ℕ) (n : NodeAt) (e : (ℕ × ℕ) × NodeAt) (nid : ℕ) → at ≡ e.0 → n ≡ e.1 → e ≡ node_entry nid → IsIn nid given_nids → IsRead at n
   unfolding node_entry given_nids
   node_right at n e nid at_is n_is e_is listed =
-      let passes = from_filter (λ k. not (place image point k == 0)) nid (numbers_below (nid_limit point.extent)) listed in
+      let passes = from_filter (λ k. not (place image ckpt k == 0)) nid (numbers_below (nid_limit ckpt.geom)) listed in
       let right : IsRead at (node_entry nid).1 = record {
-        given = record { within = from_numbers (nid_limit point.extent) nid passes.1; some = no_zero (place image point nid) passes.0 };
+        given = record { within = from_numbers (nid_limit ckpt.geom) nid passes.1; some = no_zero (place image ckpt nid) passes.0 };
         key_is = sym (at_is ∙ ap (λ (f : (ℕ × ℕ) × NodeAt). f.0) e_is);
         place_is = refl;
       } in
@@ -65,16 +65,16 @@ module _ (image : Image) (point : Checkpoint) where
       node_right at n found.0 from.0 found.2 found.3 from.2 from.1
 
   -- and for each such nid one is read
-  pub given_read : (nid : ℕ) → IsGiven image point nid → (n : NodeAt) × (map.get nodes_read (key image point nid) ≡ Some n)
+  pub given_read : (nid : ℕ) → IsGiven image ckpt nid → (n : NodeAt) × (map.get nodes_read (key image ckpt nid) ≡ Some n)
   unfolding nodes_read node_entry given_nids
   given_read nid given =
-      let listed = in_filter (λ n. not (place image point n == 0)) nid (numbers_below (nid_limit point.extent)) (some_number (place image point nid) given.some) (in_numbers (nid_limit point.extent) nid given.within) in
+      let listed = in_filter (λ n. not (place image ckpt n == 0)) nid (numbers_below (nid_limit ckpt.geom)) (some_number (place image ckpt nid) given.some) (in_numbers (nid_limit ckpt.geom) nid given.within) in
       let there = some_found (node_entry nid) (map_list node_entry given_nids) (in_map node_entry nid given_nids listed) in
-      the_one (map.get nodes_read (key image point nid)) (ap is_some (get-from_entries pair_cmp_total (map_list node_entry given_nids) (key image point nid)) ∙ there)
+      the_one (map.get nodes_read (key image ckpt nid)) (ap is_some (get-from_entries pair_cmp_total (map_list node_entry given_nids) (key image ckpt nid)) ∙ there)
 
   -- the address of a page of a file, by the block of its inode
   abbrev pub address_of : ℕ → ℕ → ℕ
-  address_of ino page = page_address image point (block_of image point ino) page
+  address_of ino page = page_address image ckpt (block_of image ckpt ino) page
 
   module _ (base : Rows) (most : ℕ) where
     -- an entry for each page of a row that has an address

@@ -23,20 +23,20 @@ one_depth tree (suc d) (suc e) ino p q =
     let same : q.1.0 ≡ p.1.0 = same_some q.1.0 p.1.0 (sym q.1.1 ∙ p.1.1) in
     ap (λ n. suc n) (one_depth tree d e p.1.0.parent p.1.2 (subst (λ (row : Row). IsAtDepth tree e row.parent) same q.1.2))
 
-module _ (image : Image) (point : Checkpoint) (tree : Rows) (places : Places) (is : IsStood image point tree places) where
-  pub reached_below : (depth ino : ℕ) → IsBelow image point depth ino → IsReached image point ino
+module _ (image : Image) (ckpt : Checkpoint) (tree : Rows) (places : Places) (is : IsStood image ckpt tree places) where
+  pub reached_below : (depth ino : ℕ) → IsBelow image ckpt depth ino → IsReached image ckpt ino
   reached_below _ _ root = bases.root
   reached_below _ _ (deeper depth directory dentry up has) = bases.below directory dentry (reached_below depth directory up) has
 
-  depth_below : (depth ino : ℕ) → IsBelow image point depth ino → IsAtDepth tree depth ino
+  depth_below : (depth ino : ℕ) → IsBelow image ckpt depth ino → IsAtDepth tree depth ino
   depth_below _ _ root = refl
   depth_below _ _ (deeper depth directory dentry up has) =
-      let under = in_tree image point tree places is directory (reached_below depth directory up) in
-      let to = bound image point tree places is directory has.0 has.1 dentry under.0 under.1 has.2 in
+      let under = in_tree image ckpt tree places is directory (reached_below depth directory up) in
+      let to = bound image ckpt tree places is directory has.0 has.1 dentry under.0 under.1 has.2 in
       let next : suc depth ≡ depth + 1 = omega arith in
       subst (λ n. IsAtDepth tree n dentry.ino) next (to.below, (to.row, to.there, subst (IsAtDepth tree depth) (sym to.parent) (depth_below depth directory up)))
 
-  pub shallow : (depth ino : ℕ) (row : Row) → map.get tree ino ≡ Some row → IsBelow image point depth ino → depth ≤ most_depth row.kind
+  pub shallow : (depth ino : ℕ) (row : Row) → map.get tree ino ≡ Some row → IsBelow image ckpt depth ino → depth ≤ most_depth row.kind
   shallow depth ino row there below =
       let deep = is.proper.good.reached ino row there in
       let same = one_depth tree depth deep.0 ino (depth_below depth ino below) deep.2 in

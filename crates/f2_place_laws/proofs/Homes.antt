@@ -23,11 +23,11 @@ use Rattle.f2_place_laws.proofs.PageWays.{way_ends}
 use Rattle.f2_place_laws.proofs.Slots.{begun, slot_of, place_of, dentry_of}
 
 -- a row of a tree, and where its inode stands
-pub record IsHome (image : Image) (point : Checkpoint) (tree : Rows) (places : Places) (ino : ℕ) (row : Row) : Type 0 where
+pub record IsHome (image : Image) (ckpt : Checkpoint) (tree : Rows) (places : Places) (ino : ℕ) (row : Row) : Type 0 where
   pub own : row.ino ≡ ino
   pub at : NodeAt
   pub there : map.get places.nodes (ino, 0) ≡ Some at
-  pub stands : IsNodeThere image point tree places ino 0 at
+  pub stands : IsNodeThere image ckpt tree places ino 0 at
   pub inode : IsInodeOf places row (block_at image at.at)
   pub of_tree : map.get tree ino ≡ Some row
 
@@ -39,42 +39,42 @@ page_told places ino page at is some = by_page (map.get places.pages (ino, page)
     by_page None e = absurd (some (sym is ∙ ap (λ o. unwrap_or o 0) e))
     by_page (Some other) e = e ∙ ap Some (sym (ap (λ o. unwrap_or o 0) e) ∙ is)
 
-module _ (image : Image) (point : Checkpoint) (tree : Rows) (places : Places) (is : IsStood image point tree places) where
-  pub home : (ino : ℕ) (row : Row) → map.get tree ino ≡ Some row → IsHome image point tree places ino row
+module _ (image : Image) (ckpt : Checkpoint) (tree : Rows) (places : Places) (is : IsStood image ckpt tree places) where
+  pub home : (ino : ℕ) (row : Row) → map.get tree ino ≡ Some row → IsHome image ckpt tree places ino row
   home ino row there =
       let found = the_one (map.get places.nodes (ino, 0)) (is.stands.laid.inodes ino row there) in
-      let stands = node_is_there image point tree places is ino 0 found.0 found.1 in
+      let stands = node_is_there image ckpt tree places is ino 0 found.0 found.1 in
       record { own = is.proper.good.keyed ino row there; at = found.0; there = found.1; stands = stands; inode = stands.here.inode refl row there; of_tree = there }
 
   -- a page that is told has an address
   pub page_some : (ino page : ℕ) → IsSome (map.get places.pages (ino, page)) → page_at places ino page ≢ 0
   page_some ino page told zero =
       let found = the_one (map.get places.pages (ino, page)) told in
-      in_data_some point.extent found.0 (is.stands.pages ino page found.0 found.1).in_zone (sym (ap (λ o. unwrap_or o 0) found.1) ∙ zero)
+      in_data_some ckpt.geom found.0 (is.stands.pages ino page found.0 found.1).in_zone (sym (ap (λ o. unwrap_or o 0) found.1) ∙ zero)
 
-  module _ (ino : ℕ) (row : Row) (at : IsHome image point tree places ino row) where
+  module _ (ino : ℕ) (row : Row) (at : IsHome image ckpt tree places ino row) where
     -- its inode
     abbrev pub inode_block : List ℕ
     inode_block = block_at image at.at.at
 
-    pub node_is : node image point ino ≡ Some inode_block
-    node_is = ap (node image point) (sym (at.stands.placed.inode refl)) ∙ block_is image point tree places ino 0 at.at at.stands
+    pub node_is : node image ckpt ino ≡ Some inode_block
+    node_is = ap (node image ckpt) (sym (at.stands.placed.inode refl)) ∙ block_is image ckpt tree places ino 0 at.at at.stands
 
-    pub is_inode : IsInode image point ino row.kind inode_block
+    pub is_inode : IsInode image ckpt ino row.kind inode_block
     is_inode = record { there = node_is; is_kind = at.inode.kind }
 
-    pub inode_is : (kind : Kind) (inode : List ℕ) → IsInode image point ino kind inode → (inode ≡ inode_block) × (kind ≡ row.kind)
+    pub inode_is : (kind : Kind) (inode : List ℕ) → IsInode image ckpt ino kind inode → (inode ≡ inode_block) × (kind ≡ row.kind)
     inode_is kind inode is_node =
         let same : inode ≡ inode_block = same_some inode inode_block (sym is_node.there ∙ node_is) in
         (same, same_some kind row.kind (sym is_node.is_kind ∙ ap inode_kind same ∙ at.inode.kind))
 
     -- the addresses of its pages
-    pub page_is : (page : ℕ) → page < page_limit → page_address image point inode_block page ≡ page_at places ino page
+    pub page_is : (page : ℕ) → page < page_limit → page_address image ckpt inode_block page ≡ page_at places ino page
     page_is page within =
-        way_ends image point tree places is ino at.at at.there (λ low small. at.inode.addresses low small ∙ ap (λ n. page_at places n low) at.own) page within
+        way_ends image ckpt tree places is ino at.at at.there (λ low small. at.inode.addresses low small ∙ ap (λ n. page_at places n low) at.own) page within
 
-    pub page_found : (kind : Kind) (inode : List ℕ) (page : ℕ) → IsInode image point ino kind inode → page < page_limit → page_address image point inode page ≡ page_at places ino page
-    page_found kind inode page is_node within = ap (λ block. page_address image point block page) (inode_is kind inode is_node).0 ∙ page_is page within
+    pub page_found : (kind : Kind) (inode : List ℕ) (page : ℕ) → IsInode image ckpt ino kind inode → page < page_limit → page_address image ckpt inode page ≡ page_at places ino page
+    page_found kind inode page is_node within = ap (λ block. page_address image ckpt block page) (inode_is kind inode is_node).0 ∙ page_is page within
 
     -- the names of a directory
     pub names_of : row.kind ≡ Directory → HasNames tree places ino
@@ -92,17 +92,17 @@ module _ (image : Image) (point : Checkpoint) (tree : Rows) (places : Places) (i
         subst (λ n. DirectoryPage places n page (block_at image (page_at places ino page))) at.own (directory_page places row page (block_at image (page_at places ino page)) kind (own_page page some))
 
     -- a block of a directory
-    pub block_found : (page address : ℕ) → IsDirectoryBlock image point ino page address → (page_at places ino page ≡ address) × (row.kind ≡ Directory)
+    pub block_found : (page address : ℕ) → IsDirectoryBlock image ckpt ino page address → (page_at places ino page ≡ address) × (row.kind ≡ Directory)
     block_found page address block =
         (sym (page_found Directory block.inode page block.is block.within) ∙ block.at_page, sym (inode_is Directory block.inode block.is).1)
 
-    pub is_block : row.kind ≡ Directory → (page : ℕ) → page_at places ino page ≢ 0 → IsDirectoryBlock image point ino page (page_at places ino page)
+    pub is_block : row.kind ≡ Directory → (page : ℕ) → page_at places ino page ≢ 0 → IsDirectoryBlock image ckpt ino page (page_at places ino page)
     is_block kind page some =
         let told = page_told places ino page (page_at places ino page) refl some in
         let within = (is.stands.laid.pages ino page (page_at places ino page) told).within in
         record {
           inode = inode_block;
-          is = subst (λ k. IsInode image point ino k inode_block) kind is_inode;
+          is = subst (λ k. IsInode image ckpt ino k inode_block) kind is_inode;
           within = within;
           at_page = page_is page within;
           there = some;
@@ -114,7 +114,7 @@ module _ (image : Image) (point : Checkpoint) (tree : Rows) (places : Places) (i
       pub at_place : slice_get (begun (block_at image (page_at places ino page))) place ≡ Some slot
       pub is_at : IsDentryAt places ino page place dentry
 
-    pub seen : (page slot : ℕ) (dentry : Dentry) → HasDentryAt image point ino page slot dentry → IsSeen page slot dentry
+    pub seen : (page slot : ℕ) (dentry : Dentry) → HasDentryAt image ckpt ino page slot dentry → IsSeen page slot dentry
     seen page slot dentry has =
         let found = block_found page has.at has.block in
         let block = block_at image (page_at places ino page) in
@@ -128,7 +128,7 @@ module _ (image : Image) (point : Checkpoint) (tree : Rows) (places : Places) (i
         in
         record { place = place.0; at_place = place.1; is_at = record { page_there = ap is_some (page_told places ino page (page_at places ino page) refl some); is = listed } }
 
-    pub shown : row.kind ≡ Directory → (page place : ℕ) (dentry : Dentry) → IsDentryAt places ino page place dentry → (slot : ℕ) × HasDentryAt image point ino page slot dentry
+    pub shown : row.kind ≡ Directory → (page place : ℕ) (dentry : Dentry) → IsDentryAt places ino page place dentry → (slot : ℕ) × HasDentryAt image ckpt ino page slot dentry
     shown kind page place dentry stands =
         let block = block_at image (page_at places ino page) in
         let some = page_some ino page stands.page_there in

@@ -2,7 +2,7 @@
 use Rattle.std.proofs.Common.{◌≡◌, ◌≢◌, ◌⊎◌, inl, inr, ℕ, ◌<◌, ◌≤◌, List, length, IsSome, is_some, refl, sym, ap, ◌∙◌, subst, arith}
 use Rattle.std.specs.Prelude.{Some}
 use Rattle.std.specs.FinMap as map
-use Rattle.f2_format.specs.Geometry.{Extent, nid_limit, node_third}
+use Rattle.f2_format.specs.Geometry.{ImageGeometry, nid_limit, node_third}
 use Rattle.f2_disk.specs.Contents.{Contents, IsWritten, last_of}
 use Rattle.f2_model.specs.Tree.{Rows, ROOT}
 use Rattle.f2_image_laws.specs.Chained.{contents_at}
@@ -15,7 +15,7 @@ use Rattle.f2_place_laws.proofs.Pairs.{pair, same_or_other, put_here, put_other,
 use Rattle.f2_place_laws.proofs.WrittenBlocks.{written_here, written_other}
 use Rattle.f2_image.proofs.OneBase.{same_some}
 
-module _ (extent : Extent) (tree : Rows) (places : Places) (ino offset : ℕ) (old node : NodeAt) (was : map.get places.nodes (ino, offset) ≡ Some old) (keeps : node.nid ≡ old.nid) where
+module _ (geom : ImageGeometry) (tree : Rows) (places : Places) (ino offset : ℕ) (old node : NodeAt) (was : map.get places.nodes (ino, offset) ≡ Some old) (keeps : node.nid ≡ old.nid) where
   abbrev new_places : Places
   new_places = with_node places ino offset node
 
@@ -48,18 +48,18 @@ module _ (extent : Extent) (tree : Rows) (places : Places) (ino offset : ℕ) (o
   still : (at : ℕ × ℕ) → IsSome (map.get places.nodes at) → IsSome (map.get new_places.nodes at)
   still at there = still_there places.nodes (ino, offset) node at there
 
-  module _ (laid : HasPlaces extent tree places) where
+  module _ (laid : HasPlaces geom tree places) where
     named_above : (file low : ℕ) → IsNamedAbove places file low → IsNamedAbove new_places file low
     named_above file low above = record { upper = above.upper; slot = above.slot; small = above.small; names = above.names; there = still (file, above.upper) above.there }
 
-    node_placed : (file low : ℕ) (n : NodeAt) → map.get new_places.nodes (file, low) ≡ Some n → IsNodePlaced extent tree new_places file low n
+    node_placed : (file low : ℕ) (n : NodeAt) → map.get new_places.nodes (file, low) ≡ Some n → IsNodePlaced geom tree new_places file low n
     node_placed file low n there =
         let m = elder_of (file, low) n (found (file, low) n there) in
         let placed = laid.nodes file low m.0 m.1 in
         record {
           row = placed.row;
           least = subst (λ nid. (4 ≤ nid) ⊎ ((file ≡ ROOT) × (low ≡ 0))) m.2 placed.least;
-          most = subst (λ nid. nid < nid_limit extent) m.2 placed.most;
+          most = subst (λ nid. nid < nid_limit geom) m.2 placed.most;
           inode = λ first. sym m.2 ∙ placed.inode first;
           above = λ not_first. named_above file low (placed.above not_first);
         }
@@ -77,7 +77,7 @@ module _ (extent : Extent) (tree : Rows) (places : Places) (ino offset : ℕ) (o
       apart_by_place one other a b (elder apart there) (own other_is b_is) some same = absurd (free.nodes one.0 one.1 a there (same ∙ ap (λ (m : NodeAt). m.at) b_is))
       apart_by_place one other a b (elder apart there) (elder apart_too there_too) some same = laid.nodes_apart one other a b there there_too some same
 
-      few : map.len new_places.nodes ≤ node_third extent
+      few : map.len new_places.nodes ≤ node_third geom
       few = let many = as_many places.nodes (ino, offset) node (ap is_some was) in let room = laid.few_nodes in omega (arith, many, room)
 
       names_there : (directory : ℕ) → HasNames tree places directory → HasNames tree new_places directory
@@ -89,7 +89,7 @@ module _ (extent : Extent) (tree : Rows) (places : Places) (ino offset : ℕ) (o
         once = λ page place more next a b at_a at_b same. names.once page place more next a b (record { page_there = at_a.page_there; is = at_a.is }) (record { page_there = at_b.page_there; is = at_b.is }) same;
       }
 
-      laid_anew : HasPlaces extent tree new_places
+      laid_anew : HasPlaces geom tree new_places
       laid_anew = record {
         nodes = node_placed;
         nids_apart = apart_by_nid;
@@ -103,27 +103,27 @@ module _ (extent : Extent) (tree : Rows) (places : Places) (ino offset : ℕ) (o
       }
 
   -- the node stands at its new place, and the others where they stood
-  module _ (lists new : Contents) (unwritten : Unwritten) (content : List ℕ) (live : IsLiveAt lists extent tree places unwritten) (free : IsElsewhere places node.at) (here : IsNodeHere extent tree places ino offset node content)
+  module _ (lists new : Contents) (unwritten : Unwritten) (content : List ℕ) (live : IsLiveAt lists geom tree places unwritten) (free : IsElsewhere places node.at) (here : IsNodeHere geom tree places ino offset node content)
       (within : node.at < length lists) (written : IsWritten node.at content lists new) where
-    alike : (file low : ℕ) (n : NodeAt) (block : List ℕ) → IsNodeHere extent tree places file low n block → IsNodeHere extent tree new_places file low n block
-    alike file low n block there = node_here_alike places new_places extent tree file low n block (same_nid file) (λ page direct. refl) (λ first row is page small. refl) there
+    alike : (file low : ℕ) (n : NodeAt) (block : List ℕ) → IsNodeHere geom tree places file low n block → IsNodeHere geom tree new_places file low n block
+    alike file low n block there = node_here_alike places new_places geom tree file low n block (same_nid file) (λ page direct. refl) (λ first row is page small. refl) there
 
-    node_stands : (file low : ℕ) (n : NodeAt) → IsOf (file, low) n → (pair file low ≢ the_node → IsNodeHere extent tree places file low n (last_of (contents_at lists n.at))) → IsNodeHere extent tree new_places file low n (last_of (contents_at new n.at))
+    node_stands : (file low : ℕ) (n : NodeAt) → IsOf (file, low) n → (pair file low ≢ the_node → IsNodeHere geom tree places file low n (last_of (contents_at lists n.at))) → IsNodeHere geom tree new_places file low n (last_of (contents_at new n.at))
     node_stands file low n (own same is) elder_here =
-        let it : IsNodeHere extent tree new_places ino offset node (last_of (contents_at new node.at)) =
-        alike ino offset node (last_of (contents_at new node.at)) (subst (IsNodeHere extent tree places ino offset node) (sym (written_here lists new node.at content within written)) here)
+        let it : IsNodeHere geom tree new_places ino offset node (last_of (contents_at new node.at)) =
+        alike ino offset node (last_of (contents_at new node.at)) (subst (IsNodeHere geom tree places ino offset node) (sym (written_here lists new node.at content within written)) here)
         in
-        subst (λ (at : ℕ × ℕ). IsNodeHere extent tree new_places at.0 at.1 n (last_of (contents_at new n.at))) (sym same)
-        (subst (λ (m : NodeAt). IsNodeHere extent tree new_places ino offset m (last_of (contents_at new m.at))) (sym is) it)
+        subst (λ (at : ℕ × ℕ). IsNodeHere geom tree new_places at.0 at.1 n (last_of (contents_at new n.at))) (sym same)
+        (subst (λ (m : NodeAt). IsNodeHere geom tree new_places ino offset m (last_of (contents_at new m.at))) (sym is) it)
     node_stands file low n (elder other there) elder_here =
         let reads = ap last_of (written_other lists new node.at content written n.at (free.nodes file low n there)) in
-        alike file low n (last_of (contents_at new n.at)) (subst (IsNodeHere extent tree places file low n) (sym reads) (elder_here other))
+        alike file low n (last_of (contents_at new n.at)) (subst (IsNodeHere geom tree places file low n) (sym reads) (elder_here other))
 
     elder_stands : (file low : ℕ) (n : NodeAt) → IsOf (file, low) n → pair file low ≢ the_node → map.get places.nodes (file, low) ≡ Some n
     elder_stands file low n (own same is) other = absurd (other same)
     elder_stands file low n (elder other there) also = there
 
-    pub live_with_node : IsLiveAt new extent tree new_places (node_written unwritten ino offset)
+    pub live_with_node : IsLiveAt new geom tree new_places (node_written unwritten ino offset)
     live_with_node = record {
       laid = laid_anew live.laid free;
       nodes = λ file low n there out.
@@ -131,6 +131,6 @@ module _ (extent : Extent) (tree : Rows) (places : Places) (ino offset : ℕ) (o
           node_stands file low n is (λ other. live.nodes file low n (elder_stands file low n is other) (not_left unwritten.nodes (ino, offset) (file, low) other out));
       pages = λ file page at there out.
           let reads = ap last_of (written_other lists new node.at content written at (free.pages file page at there)) in
-          page_here_alike places new_places extent tree file page at (last_of (contents_at new at)) (λ row. refl) (subst (IsPageHere extent tree places file page at) (sym reads) (live.pages file page at there out));
+          page_here_alike places new_places geom tree file page at (last_of (contents_at new at)) (λ row. refl) (subst (IsPageHere geom tree places file page at) (sym reads) (live.pages file page at there out));
       rows = live.rows;
     }

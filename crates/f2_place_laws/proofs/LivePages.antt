@@ -6,7 +6,7 @@ use Rattle.std.specs.FinMap as map
 use Rattle.std.specs.FinSet as set
 use Rattle.std.proofs.lemmas.Bool.Decides.{nat_tests}
 use Rattle.f2_format.specs.Offsets.{inode_pages, direct_of}
-use Rattle.f2_format.specs.Geometry.{Extent, data_third, is_in_data}
+use Rattle.f2_format.specs.Geometry.{ImageGeometry, data_third, is_in_data}
 use Rattle.f2_disk.specs.Contents.{Contents, IsWritten, last_of}
 use Rattle.f2_model.specs.Tree.{Rows}
 use Rattle.f2_model.specs.declared.rows.Row.{Row}
@@ -32,7 +32,7 @@ inode_has page small = grind (arith, nat_tests)
 in_inode : (page : ℕ) → page < inode_pages → teller_of page ≡ 0
 in_inode page small = let none : direct_of page ≡ None = inode_has page small in rw none
 
-module _ (extent : Extent) (tree : Rows) (places : Places) (ino page at : ℕ) (was : IsSome (map.get places.pages (ino, page))) where
+module _ (geom : ImageGeometry) (tree : Rows) (places : Places) (ino page at : ℕ) (was : IsSome (map.get places.pages (ino, page))) where
   abbrev pub new_places : Places
   new_places = with_page places ino page at
 
@@ -61,7 +61,7 @@ module _ (extent : Extent) (tree : Rows) (places : Places) (ino page at : ℕ) (
   same_address : (file p : ℕ) → pair file p ≢ the_page → page_at new_places file p ≡ page_at places file p
   same_address file p other = ap (λ o. unwrap_or o 0) (put_other places.pages (ino, page) at (file, p) other)
 
-  module _ (laid : HasPlaces extent tree places) (free : IsElsewhere places at) where
+  module _ (laid : HasPlaces geom tree places) (free : IsElsewhere places at) where
     page_placed : (file p a : ℕ) → map.get new_places.pages (file, p) ≡ Some a → IsPagePlaced tree new_places file p
     page_placed file p a there =
         let elder_at = the_one (map.get places.pages (file, p)) (before (file, p) (ap is_some there)) in
@@ -84,13 +84,13 @@ module _ (extent : Extent) (tree : Rows) (places : Places) (ino page at : ℕ) (
           names.once p place more next a b (record { page_there = before (directory, p) at_a.page_there; is = at_a.is }) (record { page_there = before (directory, more) at_b.page_there; is = at_b.is }) same;
     }
 
-    few : map.len new_places.pages ≤ data_third extent
+    few : map.len new_places.pages ≤ data_third geom
     few = let many = as_many places.pages (ino, page) at was in let room = laid.few_pages in omega (arith, many, room)
 
     named_above : (file low : ℕ) → IsNamedAbove places file low → IsNamedAbove new_places file low
     named_above file low above = record { upper = above.upper; slot = above.slot; small = above.small; names = above.names; there = above.there }
 
-    laid_anew : HasPlaces extent tree new_places
+    laid_anew : HasPlaces geom tree new_places
     laid_anew = record {
       nodes = λ file low n there.
           let placed = laid.nodes file low n there in
@@ -114,40 +114,40 @@ module _ (extent : Extent) (tree : Rows) (places : Places) (ino page at : ℕ) (
         let low_is : low ≡ teller_of page = sym tells ∙ ap teller_of page_is in
         other (λ i. (file_is i, low_is i))
 
-    node_alike : (file low : ℕ) (n : NodeAt) (block : List ℕ) → pair file low ≢ pair ino (teller_of page) → IsNodeHere extent tree places file low n block → IsNodeHere extent tree new_places file low n block
+    node_alike : (file low : ℕ) (n : NodeAt) (block : List ℕ) → pair file low ≢ pair ino (teller_of page) → IsNodeHere geom tree places file low n block → IsNodeHere geom tree new_places file low n block
     node_alike file low n block other here =
-        node_here_alike places new_places extent tree file low n block (λ under. refl) (λ p direct. same_address file p (not_the_page file low p other (in_direct p low direct)))
+        node_here_alike places new_places geom tree file low n block (λ under. refl) (λ p direct. same_address file p (not_the_page file low p other (in_direct p low direct)))
         (λ first row is p small.
         let own = keyed file row is in
         subst (λ ino. page_at new_places ino p ≡ page_at places ino p) (sym own) (same_address file p (not_the_page file low p other (in_inode p small ∙ sym first)))) here
 
     -- the page stands at its new place, and what doesn't tell its address where it stood
-    module _ (lists new : Contents) (unwritten : Unwritten) (row : Row) (content : List ℕ) (live : IsLiveAt lists extent tree places unwritten) (of_tree : map.get tree ino ≡ Some row) (free : IsElsewhere places at)
-        (within : at < length lists) (in_zone : IsTrue (is_in_data extent at)) (block : IsPageBlock places row page content) (written : IsWritten at content lists new) where
-      node_stands : (file low : ℕ) (n : NodeAt) → map.get places.nodes (file, low) ≡ Some n → set.contains (page_written unwritten ino page).nodes (file, low) ≡ false → IsNodeHere extent tree new_places file low n (last_of (contents_at new n.at))
+    module _ (lists new : Contents) (unwritten : Unwritten) (row : Row) (content : List ℕ) (live : IsLiveAt lists geom tree places unwritten) (of_tree : map.get tree ino ≡ Some row) (free : IsElsewhere places at)
+        (within : at < length lists) (in_zone : IsTrue (is_in_data geom at)) (block : IsPageBlock places row page content) (written : IsWritten at content lists new) where
+      node_stands : (file low : ℕ) (n : NodeAt) → map.get places.nodes (file, low) ≡ Some n → set.contains (page_written unwritten ino page).nodes (file, low) ≡ false → IsNodeHere geom tree new_places file low n (last_of (contents_at new n.at))
       node_stands file low n there out =
           let parts = not_put unwritten.nodes (ino, teller_of page) (file, low) out in
           let reads = ap last_of (written_other lists new at content written n.at (free.nodes file low n there)) in
-          node_alike file low n (last_of (contents_at new n.at)) parts.0 (subst (IsNodeHere extent tree places file low n) (sym reads) (live.nodes file low n there parts.1))
+          node_alike file low n (last_of (contents_at new n.at)) parts.0 (subst (IsNodeHere geom tree places file low n) (sym reads) (live.nodes file low n there parts.1))
 
-      own_page : IsPageHere extent tree new_places ino page at (last_of (contents_at new at))
+      own_page : IsPageHere geom tree new_places ino page at (last_of (contents_at new at))
       own_page =
-          subst (IsPageHere extent tree new_places ino page at) (sym (written_here lists new at content within written)) (record {
+          subst (IsPageHere geom tree new_places ino page at) (sym (written_here lists new at content within written)) (record {
             in_zone = in_zone;
             own = λ other there.
                 let same : row ≡ other = same_some row other (sym of_tree ∙ there) in
                 page_block_alike places new_places other page content refl (subst (λ (r : Row). IsPageBlock places r page content) same block);
           })
 
-      page_stands : (file p a : ℕ) → IsOf (file, p) a → set.contains (page_written unwritten ino page).pages (file, p) ≡ false → IsPageHere extent tree new_places file p a (last_of (contents_at new a))
+      page_stands : (file p a : ℕ) → IsOf (file, p) a → set.contains (page_written unwritten ino page).pages (file, p) ≡ false → IsPageHere geom tree new_places file p a (last_of (contents_at new a))
       page_stands file p a (own same is) out =
-          subst (λ (of : ℕ × ℕ). IsPageHere extent tree new_places of.0 of.1 a (last_of (contents_at new a))) (sym same) (subst (λ a. IsPageHere extent tree new_places ino page a (last_of (contents_at new a))) (sym is) own_page)
+          subst (λ (of : ℕ × ℕ). IsPageHere geom tree new_places of.0 of.1 a (last_of (contents_at new a))) (sym same) (subst (λ a. IsPageHere geom tree new_places ino page a (last_of (contents_at new a))) (sym is) own_page)
       page_stands file p a (elder other there) out =
           let reads = ap last_of (written_other lists new at content written a (free.pages file p a there)) in
-          page_here_alike places new_places extent tree file p a (last_of (contents_at new a)) (λ r. refl)
-          (subst (IsPageHere extent tree places file p a) (sym reads) (live.pages file p a there (not_left unwritten.pages (ino, page) (file, p) other out)))
+          page_here_alike places new_places geom tree file p a (last_of (contents_at new a)) (λ r. refl)
+          (subst (IsPageHere geom tree places file p a) (sym reads) (live.pages file p a there (not_left unwritten.pages (ino, page) (file, p) other out)))
 
-      pub live_with_page : IsLiveAt new extent tree new_places (page_written unwritten ino page)
+      pub live_with_page : IsLiveAt new geom tree new_places (page_written unwritten ino page)
       live_with_page = record {
         laid = laid_anew live.laid free;
         nodes = node_stands;
@@ -156,9 +156,9 @@ module _ (extent : Extent) (tree : Rows) (places : Places) (ino page at : ℕ) (
       }
 
 -- the law of written pages for such trees
-pub keyed_pages_stand : (lists new : Contents) (extent : Extent) (tree : Rows) (places : Places) (unwritten : Unwritten) (ino page at : ℕ) (row : Row) (content : List ℕ)
+pub keyed_pages_stand : (lists new : Contents) (geom : ImageGeometry) (tree : Rows) (places : Places) (unwritten : Unwritten) (ino page at : ℕ) (row : Row) (content : List ℕ)
     → ((file : ℕ) (other : Row) → map.get tree file ≡ Some other → other.ino ≡ file)
-    → IsLiveAt lists extent tree places unwritten → map.get tree ino ≡ Some row → IsSome (map.get places.pages (ino, page)) → IsElsewhere places at → at < length lists → IsTrue (is_in_data extent at)
-    → IsPageBlock places row page content → IsWritten at content lists new → IsLiveAt new extent tree (with_page places ino page at) (page_written unwritten ino page)
-keyed_pages_stand lists new extent tree places unwritten ino page at row content keyed live of_tree was free within in_zone block written =
-    live_with_page extent tree places ino page at was keyed lists new unwritten row content live of_tree free within in_zone block written
+    → IsLiveAt lists geom tree places unwritten → map.get tree ino ≡ Some row → IsSome (map.get places.pages (ino, page)) → IsElsewhere places at → at < length lists → IsTrue (is_in_data geom at)
+    → IsPageBlock places row page content → IsWritten at content lists new → IsLiveAt new geom tree (with_page places ino page at) (page_written unwritten ino page)
+keyed_pages_stand lists new geom tree places unwritten ino page at row content keyed live of_tree was free within in_zone block written =
+    live_with_page geom tree places ino page at was keyed lists new unwritten row content live of_tree free within in_zone block written

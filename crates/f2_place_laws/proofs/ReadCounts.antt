@@ -21,44 +21,44 @@ use Rattle.f2_place_laws.proofs.ReadNodes.{known_read}
 use Rattle.f2_place_laws.proofs.ReadPages.{base_page, pages_apart}
 use Rattle.f2_place_laws.proofs.SoundNodes.{table}
 
-module _ (image : Image) (point : Checkpoint) (sound : IsSound image point) (base : Rows) (is : IsBase image point base) where
-  not_full : (limit : ℕ) → IsTooFull image point limit → ⊥
-  not_full limit full = sound TooFull limit not_end (table image point sound, full)
+module _ (image : Image) (ckpt : Checkpoint) (sound : IsSound image ckpt) (base : Rows) (is : IsBase image ckpt base) where
+  not_full : (limit : ℕ) → IsTooFull image ckpt limit → ⊥
+  not_full limit full = sound TooFull limit not_end (table image ckpt sound, full)
     where
       not_end : TooFull ≢ VersionEnd
       not_end same = cc
 
   -- each node that is read is one of the base
-  some_node : (at : ℕ × ℕ) → IsIn at (map.keys (nodes_read image point)) → NotFalse (IsSomeNode image point at)
+  some_node : (at : ℕ × ℕ) → IsIn at (map.keys (nodes_read image ckpt)) → NotFalse (IsSomeNode image ckpt at)
   some_node at listed =
-      let found = from_map (λ (e : (ℕ × ℕ) × NodeAt). e.0) at (entries (nodes_read image point)) listed in
+      let found = from_map (λ (e : (ℕ × ℕ) × NodeAt). e.0) at (entries (nodes_read image ckpt)) listed in
       let e = found.0 in
-      subst (λ (of : ℕ × ℕ). NotFalse (IsSomeNode image point of)) (sym found.2)
-      (not_false (known_read image point sound e.0.0 e.0.1 e.1 (entry_got (nodes_read image point) e found.1)) (λ is_node. (e.1.nid, is_node)))
+      subst (λ (of : ℕ × ℕ). NotFalse (IsSomeNode image ckpt of)) (sym found.2)
+      (not_false (known_read image ckpt sound e.0.0 e.0.1 e.1 (entry_got (nodes_read image ckpt) e found.1)) (λ is_node. (e.1.nid, is_node)))
 
-  pub few_nodes : map.len (nodes_read image point) ≤ node_third point.extent
+  pub few_nodes : map.len (nodes_read image ckpt) ≤ node_third ckpt.geom
   few_nodes =
-      at_most (map.len (nodes_read image point)) (node_third point.extent) (λ more.
-      let keys = map.keys (nodes_read image point) in
-      let long = length-keys (nodes_read image point) in
-      all_not_false (IsSomeNode image point) keys (each_in (λ at. NotFalse (IsSomeNode image point at)) keys some_node)
-      (λ all. not_full (node_third point.extent) (faults.base_nodes refl (record { some = keys; differ = differing_keys (nodes_read image point); all = all; more = omega (arith, long, more) }))))
+      at_most (map.len (nodes_read image ckpt)) (node_third ckpt.geom) (λ more.
+      let keys = map.keys (nodes_read image ckpt) in
+      let long = length-keys (nodes_read image ckpt) in
+      all_not_false (IsSomeNode image ckpt) keys (each_in (λ at. NotFalse (IsSomeNode image ckpt at)) keys some_node)
+      (λ all. not_full (node_third ckpt.geom) (faults.base_nodes refl (record { some = keys; differ = differing_keys (nodes_read image ckpt); all = all; more = omega (arith, long, more) }))))
 
   -- each page that is read is a block of the base
-  some_block : (at : ℕ) → IsIn at (map.values (pages_read image point base page_limit)) → IsBaseBlock image point at
+  some_block : (at : ℕ) → IsIn at (map.values (pages_read image ckpt base page_limit)) → IsBaseBlock image ckpt at
   some_block at listed =
-      let found = from_map (λ (e : (ℕ × ℕ) × ℕ). e.1) at (entries (pages_read image point base page_limit)) listed in
+      let found = from_map (λ (e : (ℕ × ℕ) × ℕ). e.1) at (entries (pages_read image ckpt base page_limit)) listed in
       let e = found.0 in
-      subst (IsBaseBlock image point) (sym found.2) (e.0.0, e.0.1, base_page image point sound base is e.0.0 e.0.1 e.1 (entry_got (pages_read image point base page_limit) e found.1))
+      subst (IsBaseBlock image ckpt) (sym found.2) (e.0.0, e.0.1, base_page image ckpt sound base is e.0.0 e.0.1 e.1 (entry_got (pages_read image ckpt base page_limit) e found.1))
 
-  pub few_pages : map.len (pages_read image point base page_limit) ≤ data_third point.extent
+  pub few_pages : map.len (pages_read image ckpt base page_limit) ≤ data_third ckpt.geom
   few_pages =
-      at_most (map.len (pages_read image point base page_limit)) (data_third point.extent) (λ more.
-      let pages = pages_read image point base page_limit in
+      at_most (map.len (pages_read image ckpt base page_limit)) (data_third ckpt.geom) (λ more.
+      let pages = pages_read image ckpt base page_limit in
       let long = length-values pages in
-      not_full (data_third point.extent) (faults.base_blocks refl (record {
+      not_full (data_third ckpt.geom) (faults.base_blocks refl (record {
         some = map.values pages;
-        differ = differing_values pages (pages_apart image point sound base is);
-        all = each_in (IsBaseBlock image point) (map.values pages) some_block;
+        differ = differing_values pages (pages_apart image ckpt sound base is);
+        all = each_in (IsBaseBlock image ckpt) (map.values pages) some_block;
         more = omega (arith, long, more);
       })))

@@ -27,12 +27,12 @@ use Rattle.f2_place_laws.proofs.ReadPages.{places, inode_is}
 use Rattle.f2_place_laws.proofs.Slots.{begun, slot_of, place_of, dentry_of}
 use Rattle.f2_place_laws.proofs.SoundNodes.{table, block_of}
 
-module _ (image : Image) (point : Checkpoint) (sound : IsSound image point) (base : Rows) (is : IsBase image point base) where
+module _ (image : Image) (ckpt : Checkpoint) (sound : IsSound image ckpt) (base : Rows) (is : IsBase image ckpt base) where
   abbrev its : Places
-  its = places image point sound base is
+  its = places image ckpt sound base is
 
-  right_tree : (ino : ℕ) → IsBadTree image point ino → ⊥
-  right_tree ino bad = sound BadTree ino not_end (table image point sound, bad)
+  right_tree : (ino : ℕ) → IsBadTree image ckpt ino → ⊥
+  right_tree ino bad = sound BadTree ino not_end (table image ckpt sound, bad)
     where
       not_end : BadTree ≢ VersionEnd
       not_end same = cc
@@ -40,26 +40,26 @@ module _ (image : Image) (point : Checkpoint) (sound : IsSound image point) (bas
   -- the dentries of a page are those of its block
   pub dentries_are : (ino page at : ℕ) → map.get its.pages (ino, page) ≡ Some at → dentries_at its ino page ≡ dentries_of (block_at image at)
   dentries_are ino page at there =
-      ap (λ o. unwrap_or o []) (dentries_given image point base page_limit (ino, page) ∙ ap (map_option (λ a. dentries_of (block_at image a))) there)
+      ap (λ o. unwrap_or o []) (dentries_given image ckpt base page_limit (ino, page) ∙ ap (map_option (λ a. dentries_of (block_at image a))) there)
 
   module _ (ino : ℕ) (row : Row) (of_base : map.get base ino ≡ Some row) (kind : row.kind ≡ Directory) where
-    reach : IsReached image point ino
+    reach : IsReached image ckpt ino
     reach = (is.rows ino row of_base).reached
 
-    inode_here : IsInode image point ino Directory (block_of image point ino)
-    inode_here = subst (λ k. IsInode image point ino k (block_of image point ino)) kind (inode_is image point sound base is ino row of_base)
+    inode_here : IsInode image ckpt ino Directory (block_of image ckpt ino)
+    inode_here = subst (λ k. IsInode image ckpt ino k (block_of image ckpt ino)) kind (inode_is image ckpt sound base is ino row of_base)
 
     -- a page of the directory
-    is_block : (page at : ℕ) → map.get its.pages (ino, page) ≡ Some at → IsDirectoryBlock image point ino page at
+    is_block : (page at : ℕ) → map.get its.pages (ino, page) ≡ Some at → IsDirectoryBlock image ckpt ino page at
     is_block page at there =
-        let found = page_read image point base page_limit (ino, page) at there in
-        record { inode = block_of image point ino; is = inode_here; within = found.within; at_page = found.is; there = found.some }
+        let found = page_read image ckpt base page_limit (ino, page) at there in
+        record { inode = block_of image ckpt ino; is = inode_here; within = found.within; at_page = found.is; there = found.some }
 
-    block_read : (page at : ℕ) → IsDirectoryBlock image point ino page at → map.get its.pages (ino, page) ≡ Some at
+    block_read : (page at : ℕ) → IsDirectoryBlock image ckpt ino page at → map.get its.pages (ino, page) ≡ Some at
     block_read page at block =
-        let inode : block.inode ≡ block_of image point ino = same_some block.inode (block_of image point ino) (sym block.is.there ∙ inode_here.there) in
-        let address : page_address image point (block_of image point ino) page ≡ at = ap (λ b. page_address image point b page) (sym inode) ∙ block.at_page in
-        page_given image point base page_limit ino page (ap is_some of_base) block.within (λ zero. block.there (sym address ∙ zero)) ∙ ap Some address
+        let inode : block.inode ≡ block_of image ckpt ino = same_some block.inode (block_of image ckpt ino) (sym block.is.there ∙ inode_here.there) in
+        let address : page_address image ckpt (block_of image ckpt ino) page ≡ at = ap (λ b. page_address image ckpt b page) (sym inode) ∙ block.at_page in
+        page_given image ckpt base page_limit ino page (ap is_some of_base) block.within (λ zero. block.there (sym address ∙ zero)) ∙ ap Some address
 
     -- and has no fault
     pub right_page : (page at : ℕ) → map.get its.pages (ino, page) ≡ Some at → dentry_fault (block_at image at) ≡ None
@@ -71,7 +71,7 @@ module _ (image : Image) (point : Checkpoint) (sound : IsSound image point) (bas
         by_fault : (o : Option ℕ) → dentry_fault (block_at image at) ≡ o → dentry_fault (block_at image at) ≡ None
         by_fault None e = e
         by_fault (Some slot) e =
-            absurd (sound DentFault at not_end (table image point sound, record { directory = ino; page = page; slot = slot; reached = reach; block = is_block page at there; fault = e }))
+            absurd (sound DentFault at not_end (table image ckpt sound, record { directory = ino; page = page; slot = slot; reached = reach; block = is_block page at there; fault = e }))
 
     -- a dentry at a place begins in a slot
     record IsShown (page place : ℕ) (dentry : Dentry) : Type 0 where
@@ -79,7 +79,7 @@ module _ (image : Image) (point : Checkpoint) (sound : IsSound image point) (bas
       there : map.get its.pages (ino, page) ≡ Some at
       slot : ℕ
       place_is : slice_get (begun (block_at image at)) place ≡ Some slot
-      has : HasDentryAt image point ino page slot dentry
+      has : HasDentryAt image ckpt ino page slot dentry
 
     shown : (page place : ℕ) (dentry : Dentry) → IsDentryAt its ino page place dentry → IsShown page place dentry
     shown page place dentry stands =
@@ -98,7 +98,7 @@ module _ (image : Image) (point : Checkpoint) (sound : IsSound image point) (bas
     bound : (page place : ℕ) (dentry : Dentry) → IsDentryAt its ino page place dentry → IsBound base ino dentry
     bound page place dentry stands =
         let found = shown page place dentry stands in
-        let has : HasDentry image point ino dentry = (page, found.slot, found.has) in
+        let has : HasDentry image ckpt ino dentry = (page, found.slot, found.has) in
         let to = is.names ino dentry reach has in
         record {
           row = to.row;
@@ -109,13 +109,13 @@ module _ (image : Image) (point : Checkpoint) (sound : IsSound image point) (bas
           typed = typed has to.row to.there (ℕ_discrete (type_of_kind to.row.kind) dentry.type);
         }
       where
-        typed : HasDentry image point ino dentry → (child : Row) → map.get base dentry.ino ≡ Some child → Dec (type_of_kind child.kind ≡ dentry.type) → dentry.type ≡ type_of_kind child.kind
+        typed : HasDentry image ckpt ino dentry → (child : Row) → map.get base dentry.ino ≡ Some child → Dec (type_of_kind child.kind ≡ dentry.type) → dentry.type ≡ type_of_kind child.kind
         typed has child there (yes same) = sym same
         typed has child there (no other) =
-            absurd (right_tree dentry.ino (faults.other_kind ino dentry child.kind (block_of image point dentry.ino) reach has refl (inode_is image point sound base is dentry.ino child there) other))
+            absurd (right_tree dentry.ino (faults.other_kind ino dentry child.kind (block_of image ckpt dentry.ino) reach has refl (inode_is image ckpt sound base is dentry.ino child there) other))
 
     -- each row of the directory has one
-    listed : (page slot : ℕ) (dentry : Dentry) → HasDentryAt image point ino page slot dentry → (place : ℕ) × IsDentryAt its ino page place dentry
+    listed : (page slot : ℕ) (dentry : Dentry) → HasDentryAt image ckpt ino page slot dentry → (place : ℕ) × IsDentryAt its ino page place dentry
     listed page slot dentry has =
         let block = block_at image has.at in
         let there = block_read page has.at has.block in
@@ -124,8 +124,8 @@ module _ (image : Image) (point : Checkpoint) (sound : IsSound image point) (bas
 
     all : (child : ℕ) (below : Row) → map.get base child ≡ Some below → child ≢ ROOT → below.parent ≡ ino → (page place : ℕ) × ((dentry : Dentry) × IsDentryAt its ino page place dentry × (dentry.ino ≡ child))
     all child below there other parent =
-        let name = row_has_name image point base is child below there other in
-        let has : HasDentry image point ino name.dentry = subst (λ d. HasDentry image point d name.dentry) parent name.has in
+        let name = row_has_name image ckpt base is child below there other in
+        let has : HasDentry image ckpt ino name.dentry = subst (λ d. HasDentry image ckpt d name.dentry) parent name.has in
         let at = listed has.0 has.1 name.dentry has.2 in
         (has.0, at.0, (name.dentry, at.1, name.is))
 

@@ -11,6 +11,6 @@ use Rattle.f2_stored.specs.Trees.{IsTreeAt}
 -- the base of an image stands at places in it, whatever its node log is
 abbrev pub SoundImagesHavePlaces : Type 0
 SoundImagesHavePlaces =
-    (image : Image) (point : Checkpoint) (base : Rows) (marks : List Mark) →
-    MeansAt image point base marks →
-    (places : Places) × IsTreeAt image point base places
+    (image : Image) (ckpt : Checkpoint) (base : Rows) (marks : List Mark) →
+    MeansAt image ckpt base marks →
+    (places : Places) × IsTreeAt image ckpt base places

@@ -3,7 +3,7 @@ use Rattle.std.specs.Prelude.{◌≡◌, ℕ, ◌<◌, false, IsTrue, List, leng
 use Rattle.std.specs.FinMap as map
 use Rattle.std.specs.FinSet as set
 use Rattle.f2_format.specs.Offsets.{direct_of}
-use Rattle.f2_format.specs.Geometry.{Extent, is_in_data}
+use Rattle.f2_format.specs.Geometry.{ImageGeometry, is_in_data}
 use Rattle.f2_disk.specs.Contents.{Contents, IsWhole, IsWritten, last_of, flushed}
 use Rattle.f2_model.specs.Tree.{Rows}
 use Rattle.f2_model.specs.declared.rows.Row.{Row}
@@ -28,28 +28,28 @@ pub record HasWhatReadsGive (lists : Contents) (image : Image) (places : Places)
 -- where nothing is left to be written, the tree stands at its places in an image whose table tells them
 abbrev pub WrittenTreesStand : Type 0
 WrittenTreesStand =
-    (lists : Contents) (image : Image) (point : Checkpoint) (tree : Rows) (places : Places) (unwritten : Unwritten) →
-    IsLiveAt lists point.extent tree places unwritten →
+    (lists : Contents) (image : Image) (ckpt : Checkpoint) (tree : Rows) (places : Places) (unwritten : Unwritten) →
+    IsLiveAt lists ckpt.geom tree places unwritten →
     IsWrittenOut places unwritten →
     HasWhatReadsGive lists image places →
-    IsTableOf image point places →
-    IsTreeAt image point tree places
+    IsTableOf image ckpt places →
+    IsTreeAt image ckpt tree places
 
 -- writes elsewhere, made or failed, and flushes keep a live tree
 abbrev pub WritesElsewhereKeep : Type 0
 WritesElsewhereKeep =
-    (lists new : Contents) (extent : Extent) (tree : Rows) (places : Places) (unwritten : Unwritten) (at : ℕ) (content : List ℕ) →
-    IsLiveAt lists extent tree places unwritten →
+    (lists new : Contents) (geom : ImageGeometry) (tree : Rows) (places : Places) (unwritten : Unwritten) (at : ℕ) (content : List ℕ) →
+    IsLiveAt lists geom tree places unwritten →
     IsElsewhere places at →
     Wrote lists at content new →
-    IsLiveAt new extent tree places unwritten
+    IsLiveAt new geom tree places unwritten
 
 abbrev pub FlushesKeepLive : Type 0
 FlushesKeepLive =
-    (lists : Contents) (extent : Extent) (tree : Rows) (places : Places) (unwritten : Unwritten) →
+    (lists : Contents) (geom : ImageGeometry) (tree : Rows) (places : Places) (unwritten : Unwritten) →
     IsWhole (length lists) lists →
-    IsLiveAt lists extent tree places unwritten →
-    IsLiveAt (flushed lists) extent tree places unwritten
+    IsLiveAt lists geom tree places unwritten →
+    IsLiveAt (flushed lists) geom tree places unwritten
 
 -- the node that tells the address of a page: its direct node, or the inode
 abbrev pub teller_of : ℕ → ℕ
@@ -77,27 +77,27 @@ node_written unwritten ino offset = record unwritten { nodes = set.remove unwrit
 -- its address is to be written; each row stands under its own ino
 abbrev pub WrittenPagesStand : Type 0
 WrittenPagesStand =
-    (lists new : Contents) (extent : Extent) (tree : Rows) (places : Places) (unwritten : Unwritten) (ino page at : ℕ) (row : Row) (content : List ℕ) →
+    (lists new : Contents) (geom : ImageGeometry) (tree : Rows) (places : Places) (unwritten : Unwritten) (ino page at : ℕ) (row : Row) (content : List ℕ) →
     ((key : ℕ) (other : Row) → map.get tree key ≡ Some other → other.ino ≡ key) →
-    IsLiveAt lists extent tree places unwritten →
+    IsLiveAt lists geom tree places unwritten →
     map.get tree ino ≡ Some row →
     IsSome (map.get places.pages (ino, page)) →
     IsElsewhere places at →
     at < length lists →
-    IsTrue (is_in_data extent at) →
+    IsTrue (is_in_data geom at) →
     IsPageBlock places row page content →
     IsWritten at content lists new →
-    IsLiveAt new extent tree (with_page places ino page at) (page_written unwritten ino page)
+    IsLiveAt new geom tree (with_page places ino page at) (page_written unwritten ino page)
 
 -- so is a node, whose block tells the places of what is below it; its nid stays
 abbrev pub WrittenNodesStand : Type 0
 WrittenNodesStand =
-    (lists new : Contents) (extent : Extent) (tree : Rows) (places : Places) (unwritten : Unwritten) (ino offset : ℕ) (old node : NodeAt) (content : List ℕ) →
-    IsLiveAt lists extent tree places unwritten →
+    (lists new : Contents) (geom : ImageGeometry) (tree : Rows) (places : Places) (unwritten : Unwritten) (ino offset : ℕ) (old node : NodeAt) (content : List ℕ) →
+    IsLiveAt lists geom tree places unwritten →
     map.get places.nodes (ino, offset) ≡ Some old →
     node.nid ≡ old.nid →
     IsElsewhere places node.at →
     node.at < length lists →
-    IsNodeHere extent tree places ino offset node content →
+    IsNodeHere geom tree places ino offset node content →
     IsWritten node.at content lists new →
-    IsLiveAt new extent tree (with_node places ino offset node) (node_written unwritten ino offset)
+    IsLiveAt new geom tree (with_node places ino offset node) (node_written unwritten ino offset)

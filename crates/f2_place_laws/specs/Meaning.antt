@@ -13,9 +13,9 @@ use Rattle.f2_stored.specs.Trees.{IsTreeAt}
 -- with no node log it stands for that tree, where the tree is proper
 abbrev pub TreesAtPlacesMean : Type 0
 TreesAtPlacesMean =
-    (image : Image) (point : Checkpoint) (tree : Rows) (places : Places) →
-    IsCheckpoint image point →
-    chain image point ≡ [] →
-    IsProperTree (image_limits point.extent) tree →
-    IsTreeAt image point tree places →
-    MeansAt image point tree []
+    (image : Image) (ckpt : Checkpoint) (tree : Rows) (places : Places) →
+    IsCheckpoint image ckpt →
+    chain image ckpt ≡ [] →
+    IsProperTree (image_limits ckpt.geom) tree →
+    IsTreeAt image ckpt tree places →
+    MeansAt image ckpt tree []

@@ -2,7 +2,7 @@
 use Rattle.std.proofs.Common.{◌≡◌, ◌≢◌, ◌↔◌, ◌<◌, ◌≤◌, Bool, IsTrue, sym, subst}
 use Rattle.std.specs.Prelude.{All}
 use Rattle.std.specs.FinMap as map
-use Rattle.f2_format.specs.Geometry.{Extent, nid_limit}
+use Rattle.f2_format.specs.Geometry.{ImageGeometry, nid_limit}
 use Rattle.f2_format.specs.Inode.{SIZE_LIMIT}
 use Rattle.f2_format.specs.Offsets.{inode_pages}
 use Rattle.f2_model.specs.Tree.{Rows, ROOT, HasGoodPages, IsAtDepth, IsGoodTree}
@@ -54,28 +54,28 @@ rows_of_good tree good = (each_value (IsGoodRow tree) tree).1 (λ ino row there.
     })
 
 -- a good tree that an image has room for, and nothing else, is storable
-pub storable : (extent : Extent) (tree : Rows) → IsGoodTree SIZE_LIMIT tree → HasRoomForAll extent tree → IsStorable extent tree
-storable extent tree good room =
-    let row_of = (each_value (HasRoom extent (map.values tree)) tree).0 room.rows in
+pub storable : (geom : ImageGeometry) (tree : Rows) → IsGoodTree SIZE_LIMIT tree → HasRoomForAll geom tree → IsStorable geom tree
+storable geom tree good room =
+    let row_of = (each_value (HasRoom geom (map.values tree)) tree).0 room.rows in
     record {
       good = good;
       low = λ ino row there below.
           subst (λ n. 4 ≤ n) (good.keyed ino row there) ((row_of ino row there).numbered.0 (subst (λ n. n ≢ ROOT) (sym (good.keyed ino row there)) below));
-      numbered = λ ino row there. subst (λ n. n < nid_limit extent) (good.keyed ino row there) (row_of ino row there).numbered.1;
+      numbered = λ ino row there. subst (λ n. n < nid_limit geom) (good.keyed ino row there) (row_of ino row there).numbered.1;
       nodes = room.space.0;
       blocks = room.space.1;
       short_files = λ ino page row bytes there at. (row_of ino row there).file page bytes at;
       short_directories = λ ino row there kind. subst (λ n. dentry_blocks (map.values tree) n ≤ inode_pages) (good.keyed ino row there) ((row_of ino row there).directory kind);
     }
 
-pub room_of_storable : (extent : Extent) (tree : Rows) → IsStorable extent tree → HasRoomForAll extent tree
-room_of_storable extent tree storable = record {
-  rows = (each_value (HasRoom extent (map.values tree)) tree).1 (λ ino row there.
+pub room_of_storable : (geom : ImageGeometry) (tree : Rows) → IsStorable geom tree → HasRoomForAll geom tree
+room_of_storable geom tree storable = record {
+  rows = (each_value (HasRoom geom (map.values tree)) tree).1 (λ ino row there.
       let same : row.ino ≡ ino = storable.good.keyed ino row there in
       record {
         numbered = (
           λ below. subst (λ n. 4 ≤ n) (sym same) (storable.low ino row there (subst (λ n. n ≢ ROOT) same below)),
-          subst (λ n. n < nid_limit extent) (sym same) (storable.numbered ino row there),
+          subst (λ n. n < nid_limit geom) (sym same) (storable.numbered ino row there),
         );
         file = λ page bytes at. storable.short_files ino page row bytes there at;
         directory = λ kind. subst (λ n. dentry_blocks (map.values tree) n ≤ inode_pages) (sym same) (storable.short_directories ino row there kind);

@@ -3,7 +3,7 @@ use Rattle.std.specs.Prelude.{◌≡◌, ◌≢◌, ℕ, ◌+◌, ◌*◌, ◌<�
 use Rattle.std.specs.Ordering.{nat_cmp}
 use Rattle.std.specs.FinMap as map
 use Rattle.f2_format.specs.Offsets.{inode_pages}
-use Rattle.f2_format.specs.Geometry.{Extent, node_third, data_third, nid_limit}
+use Rattle.f2_format.specs.Geometry.{ImageGeometry, node_third, data_third, nid_limit}
 use Rattle.f2_format.specs.Inode.{SIZE_LIMIT}
 use Rattle.f2_model.specs.Content.{PAGE}
 use Rattle.f2_model.specs.Names.{is_good_name}
@@ -49,8 +49,8 @@ AreApart tree =
     (i j : ℕ) (a b : Row) → map.get tree i ≡ Some a → map.get tree j ≡ Some b → i ≢ ROOT → j ≢ ROOT → a.parent ≡ b.parent → a.name ≡ b.name → i ≡ j
 
 -- the number of a row is one that a row may have: the root's, or one from 4 on that the node address table has
-abbrev pub IsNumbered : Extent → Row → Type 0
-IsNumbered extent row = (row.ino ≢ ROOT → 4 ≤ row.ino) × (row.ino < nid_limit extent)
+abbrev pub IsNumbered : ImageGeometry → Row → Type 0
+IsNumbered geom row = (row.ino ≢ ROOT → 4 ≤ row.ino) × (row.ino < nid_limit geom)
 
 -- each byte of a page is 0 that lies at a size or past it
 abbrev pub EndsInZeros : ℕ → ℕ → List ℕ → Type 0
@@ -87,16 +87,16 @@ abbrev pub IsShortDirectory : List Row → Row → Type 0
 IsShortDirectory rows row = row.kind ≡ Directory → dentry_blocks rows row.ino ≤ inode_pages
 
 -- a row among rows has a number and a length that an image of these sizes has room for
-pub record HasRoom (extent : Extent) (rows : List Row) (row : Row) : Type 0 where
-  pub numbered : IsNumbered extent row
+pub record HasRoom (geom : ImageGeometry) (rows : List Row) (row : Row) : Type 0 where
+  pub numbered : IsNumbered geom row
   pub file : HasShortFile row
   pub directory : IsShortDirectory rows row
 
 -- an image of these sizes has space for all of a tree in a third of each zone
-abbrev pub HasSpace : Extent → Rows → Type 0
-HasSpace extent tree = (nodes_of_tree tree ≤ node_third extent) × (data_of_tree tree ≤ data_third extent)
+abbrev pub HasSpace : ImageGeometry → Rows → Type 0
+HasSpace geom tree = (nodes_of_tree tree ≤ node_third geom) × (data_of_tree tree ≤ data_third geom)
 
 -- an image of these sizes has room for a tree: for each row, and for all of them
-pub record HasRoomForAll (extent : Extent) (tree : Rows) : Type 0 where
-  pub rows : All (HasRoom extent (map.values tree)) (map.values tree)
-  pub space : HasSpace extent tree
+pub record HasRoomForAll (geom : ImageGeometry) (tree : Rows) : Type 0 where
+  pub rows : All (HasRoom geom (map.values tree)) (map.values tree)
+  pub space : HasSpace geom tree

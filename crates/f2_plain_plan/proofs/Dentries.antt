@@ -14,7 +14,7 @@ use Rattle.f2_dentry_block.specs.Dents.{dentry_of, type_of}
 use Rattle.f2_dentry_block.specs.Packed.{HasNameLength, names_of}
 use Rattle.f2_dentry_block.specs.declared.dents.Dent.{Dent}
 use Rattle.f2_dir.proofs.Listed.{dent_of}
-use Rattle.f2_format.specs.Geometry.{Extent}
+use Rattle.f2_format.specs.Geometry.{ImageGeometry}
 use Rattle.f2_held.proofs.RowLists.{value_is_one, one_is_value, name_of_row, row_of_name}
 use Rattle.f2_image.specs.Faults.{type_of_kind}
 use Rattle.f2_laid.specs.Laid.{IsStorable, AreDentries, IsBound}
@@ -76,7 +76,7 @@ named_so row directory name h = by_ino (row.ino == ROOT) refl h
     by_ino true e h = absurd (no_part h)
     by_ino false e h = let rest = by_parent (row.parent == directory) refl h in (λ same. true≢false (sym (eq-eqb row.ino ROOT same) ∙ e), rest.0, rest.1)
 
-module _ (extent : Extent) (tree : Rows) (storable : IsStorable extent tree) (names : AllNames) (are : IsNamesOf tree names) where
+module _ (geom : ImageGeometry) (tree : Rows) (storable : IsStorable geom tree) (names : AllNames) (are : IsNamesOf tree names) where
   keyed : (row : Row) → Contains (map.values tree) row → map.get tree row.ino ≡ Some row
   keyed row c = row_at tree row storable.good.keyed c
 

@@ -10,7 +10,7 @@ use Rattle.std.proofs.lemmas.Bool.{true≢false, or_left}
 use Rattle.std.proofs.lemmas.List.Elements.{All-contains, All-from_recursion}
 use Rattle.std.proofs.lemmas.List.Sums.{sum_by-cons}
 use Rattle.f2_bitset.proofs.Members.{len-contained}
-use Rattle.f2_format.specs.Geometry.{Extent}
+use Rattle.f2_format.specs.Geometry.{ImageGeometry}
 use Rattle.f2_format.specs.Offsets.{nodes_over, node_count, nodes_of_page}
 use Rattle.f2_held.proofs.Lists.{tied-same}
 use Rattle.f2_image.specs.Reached.{AllDiffer}
@@ -44,9 +44,9 @@ no_some : {X : Type 0} (x : X) → None ≡ Some x → ⊥
 no_some x e = cc
 
 -- a row that comes after those with a place has none
-pub row_fresh : (extent : Extent) (tree : Rows) (before draft : Draft) (rows : List Row) (i : ℕ) (row : Row) → IsStorable extent tree → rows ≡ map.values tree → i < length rows → get_or rows i row ≡ row
+pub row_fresh : (geom : ImageGeometry) (tree : Rows) (before draft : Draft) (rows : List Row) (i : ℕ) (row : Row) → IsStorable geom tree → rows ≡ map.values tree → i < length rows → get_or rows i row ≡ row
     → SoFar tree before (take i rows) draft → map.get draft.places row.ino ≡ None
-row_fresh extent tree before draft rows i row storable all low is so_far = go (map.get draft.places row.ino) refl
+row_fresh geom tree before draft rows i row storable all low is so_far = go (map.get draft.places row.ino) refl
   where
     apart : AllByRecursion (λ (other : Row). other.ino ≢ row.ino) (take i rows)
     apart = subst (λ (r : Row). AllByRecursion (λ (other : Row). other.ino ≢ r.ino) (take i rows)) is
@@ -59,15 +59,15 @@ row_fresh extent tree before draft rows i row storable all low is so_far = go (m
         absurd (All-contains (λ (other : Row). other.ino ≢ row.ino) (take i rows) one.0 (All-from_recursion (λ (other : Row). other.ino ≢ row.ino) (take i rows) apart) one.1 one.2)
 
 -- once all rows have places, the tree is drafted
-pub all_placed : (extent : Extent) (tree : Rows) (old : PlaceMap) (before draft : Draft) → IsStorable extent tree → HasNodes extent old before.nodes → HasPages extent old before.pages
-    → SoFar tree before (map.values tree) draft → IsDraftOf extent tree old draft.places draft.blocks.items
-all_placed extent tree old before draft storable nodes pages so_far =
+pub all_placed : (geom : ImageGeometry) (tree : Rows) (old : PlaceMap) (before draft : Draft) → IsStorable geom tree → HasNodes geom old before.nodes → HasPages geom old before.pages
+    → SoFar tree before (map.values tree) draft → IsDraftOf geom tree old draft.places draft.blocks.items
+all_placed geom tree old before draft storable nodes pages so_far =
     record {
       placed = record {
         whole = so_far.whole;
-        nodes = λ ino place h. range_node extent before.nodes place.at nodes.zone (so_far.nodes ino place h).zone;
+        nodes = λ ino place h. range_node geom before.nodes place.at nodes.zone (so_far.nodes ino place h).zone;
         nodes_apart = so_far.nodes_apart;
-        pages = λ ino page place h ne. range_data extent before.pages (page_at place page) pages.zone (so_far.pages ino page place h ne).zone;
+        pages = λ ino page place h ne. range_data geom before.pages (page_at place page) pages.zone (so_far.pages ino page place h ne).zone;
         pages_apart = so_far.pages_apart;
       };
       apart = record {

@@ -7,7 +7,7 @@ use Rattle.std.proofs.lemmas.Bool.{cases_eq}
 use Rattle.std.proofs.lemmas.List.{length-append, length-map, map-append}
 use Rattle.std.proofs.lemmas.List.Elements.{All-append, All-cons, All-contains, All-nil, All-weaker, Contains-append_left, Contains-append_right, recursion_from_All}
 use Rattle.std.proofs.lemmas.List.FromFn.{get_or-range_with_len, length-range_with_len, map-range_with_len_more}
-use Rattle.f2_format.specs.Geometry.{Extent, data_start, data_third, nat_address, node_start, node_third}
+use Rattle.f2_format.specs.Geometry.{ImageGeometry, data_start, data_third, nat_address, node_start, node_third}
 use Rattle.f2_format.specs.Inode.{NAME_BYTES}
 use Rattle.f2_image.specs.Packs.{A, B, Side, head_address, summary_address}
 use Rattle.f2_image.specs.Reached.{AllDiffer}
@@ -35,7 +35,7 @@ same_some x y e = cc
 abbrev at_one : Planned → ℕ
 at_one one = one.at
 
-module _ (extent : Extent) (tree : Rows) (storable : IsStorable extent tree) where
+module _ (geom : ImageGeometry) (tree : Rows) (storable : IsStorable geom tree) where
   name_fits : (ino : ℕ) (row : Row) → map.get tree ino ≡ Some row → length row.name ≤ NAME_BYTES
   name_fits ino row there = elim (cases_eq ino ROOT) [
     | inl e ↦
@@ -47,31 +47,31 @@ module _ (extent : Extent) (tree : Rows) (storable : IsStorable extent tree) whe
   ]
 
   -- each row of a drafted tree has an inode
-  pub have_inodes : (old places : PlaceMap) (blocks : List Planned) → IsDraftOf extent tree old places blocks → All (HasInode places) (map.values tree)
+  pub have_inodes : (old places : PlaceMap) (blocks : List Planned) → IsDraftOf geom tree old places blocks → All (HasInode places) (map.values tree)
   have_inodes old places blocks draft = each_value (HasInode places) tree (λ ino row there.
       let pages = draft.rows ino row there in
       record { place = pages.place; there = pages.there; size = (storable.good.pages ino row there).size; name = name_fits ino row there })
 
 -- the addresses of the table's first blocks differ, and are below the next one's
-record Rises (extent : Extent) (second : Bool) (end : ℕ) : Type 0 where
-  differ : AllDiffer (map_list (λ block. nat_address extent block second) (range_with_len 0 end))
-  under : AllByRecursion (λ at. at < nat_address extent end second) (map_list (λ block. nat_address extent block second) (range_with_len 0 end))
+record Rises (geom : ImageGeometry) (second : Bool) (end : ℕ) : Type 0 where
+  differ : AllDiffer (map_list (λ block. nat_address geom block second) (range_with_len 0 end))
+  under : AllByRecursion (λ at. at < nat_address geom end second) (map_list (λ block. nat_address geom block second) (range_with_len 0 end))
 
-rises_more : (extent : Extent) (second : Bool) (end : ℕ) → Rises extent second end → Rises extent second (end + 1)
-rises_more extent second end h =
-    let more = map-range_with_len_more (λ block. nat_address extent block second) 0 end end (omega arith) in
-    let xs = map_list (λ block. nat_address extent block second) (range_with_len 0 end) in
-    let here = nat_address extent end second in
-    let rises : nat_address extent end second < nat_address extent (end + 1) second = omega arith in
+rises_more : (geom : ImageGeometry) (second : Bool) (end : ℕ) → Rises geom second end → Rises geom second (end + 1)
+rises_more geom second end h =
+    let more = map-range_with_len_more (λ block. nat_address geom block second) 0 end end (omega arith) in
+    let xs = map_list (λ block. nat_address geom block second) (range_with_len 0 end) in
+    let here = nat_address geom end second in
+    let rises : nat_address geom end second < nat_address geom (end + 1) second = omega arith in
     record {
       differ = subst AllDiffer (sym more) (differ-push xs here h.differ (each-weaker (λ at. at < here) (λ at. at ≢ here) (λ at low e. absurd (omega (arith, e))) xs h.under));
-      under = subst (AllByRecursion (λ at. at < nat_address extent (end + 1) second)) (sym more)
-          (each-push (λ at. at < nat_address extent (end + 1) second) xs here (each-weaker (λ at. at < here) (λ at. at < nat_address extent (end + 1) second) (λ at low. omega (arith, rises)) xs h.under) rises);
+      under = subst (AllByRecursion (λ at. at < nat_address geom (end + 1) second)) (sym more)
+          (each-push (λ at. at < nat_address geom (end + 1) second) xs here (each-weaker (λ at. at < here) (λ at. at < nat_address geom (end + 1) second) (λ at low. omega (arith, rises)) xs h.under) rises);
     }
 
-table_rises : (extent : Extent) (second : Bool) (end : ℕ) → Rises extent second end
-table_rises extent second zero = record { differ = tt; under = tt }
-table_rises extent second (suc end) = subst (Rises extent second) (add-one end) (rises_more extent second end (table_rises extent second end))
+table_rises : (geom : ImageGeometry) (second : Bool) (end : ℕ) → Rises geom second end
+table_rises geom second zero = record { differ = tt; under = tt }
+table_rises geom second (suc end) = subst (Rises geom second) (add-one end) (rises_more geom second end (table_rises geom second end))
 
 all_range : (P : ℕ → Type 0) (n : ℕ) → ((k : ℕ) → k < n → P k) → All P (range_with_len 0 n)
 all_range P n h k d low =
@@ -83,9 +83,9 @@ side_low : (side : Side) → (head_address side + 1 < 8) × (head_address side <
 side_low A = (omega arith, omega arith)
 side_low B = (omega arith, omega arith)
 
-table_low : (extent : Extent) (second : Bool) (block : ℕ) → block < extent.nat → (8 ≤ nat_address extent block second) × (nat_address extent block second < node_start extent)
-table_low extent true block low = (omega arith, omega arith)
-table_low extent false block low = (omega arith, omega arith)
+table_low : (geom : ImageGeometry) (second : Bool) (block : ℕ) → block < geom.nat → (8 ≤ nat_address geom block second) × (nat_address geom block second < node_start geom)
+table_low geom true block low = (omega arith, omega arith)
+table_low geom false block low = (omega arith, omega arith)
 
 module _ (next : Next) (tree : Rows) (old places : PlaceMap) (data_blocks inode_blocks table_blocks all : List Planned) (tail : List ℕ)
     (storable : IsStorable next.geometry tree) (draft : IsDraftOf next.geometry tree old places data_blocks)
@@ -96,8 +96,8 @@ module _ (next : Next) (tree : Rows) (old places : PlaceMap) (data_blocks inode_
   abbrev stored : Stored
   stored = record { geometry = next.geometry; side = next.side; version = next.version; second = next.second; places = places }
 
-  abbrev extent : Extent
-  extent = next.geometry
+  abbrev geom : ImageGeometry
+  geom = next.geometry
 
   abbrev summary_planned : Planned
   summary_planned = record { at = summary_address (side_of next.side); block = pack.summary }
@@ -145,7 +145,7 @@ module _ (next : Next) (tree : Rows) (old places : PlaceMap) (data_blocks inode_
   inodes_within = all_shown (IsWriteOf stored) at_one (λ (row : Row). at_of (map.get places row.ino)) inodes.more (map.values tree) inodes.ats (each_value (λ (row : Row). IsWriteOf stored (at_of (map.get places row.ino))) tree inode_place)
 
   tables_within : All IsWrite tables.more
-  tables_within = all_shown (IsWriteOf stored) at_one (λ block. nat_address extent block next.second) tables.more (range_with_len 0 extent.nat) tables.ats (all_range (λ block. IsWriteOf stored (nat_address extent block next.second)) extent.nat (λ block low. table block low refl))
+  tables_within = all_shown (IsWriteOf stored) at_one (λ block. nat_address geom block next.second) tables.more (range_with_len 0 geom.nat) tables.ats (all_range (λ block. IsWriteOf stored (nat_address geom block next.second)) geom.nat (λ block low. table block low refl))
 
   last_within : All IsWrite last_blocks
   last_within = All-cons IsWrite summary_planned (head_planned ∷ []) (summary refl) (All-cons IsWrite head_planned [] (head refl) (All-nil IsWrite))
@@ -157,25 +157,25 @@ module _ (next : Next) (tree : Rows) (old places : PlaceMap) (data_blocks inode_
       (subst (All IsWrite) (sym inodes.added) (All-append IsWrite data_blocks inodes.more data_within inodes_within)) tables_within)) last_within)
 
   -- where the parts stand
-  data_from : AllByRecursion (λ at. data_start extent ≤ at) (map_list at_one data_blocks)
-  data_from = each-map (λ at. data_start extent ≤ at) at_one data_blocks (recursion_from_All (λ (one : Planned). data_start extent ≤ one.at) data_blocks
-      (All-weaker (IsPageOf places) (λ (one : Planned). data_start extent ≤ one.at) (λ one (ino, number, place, there, ne, is). subst (λ at. data_start extent ≤ at) (sym is) (data_range extent (page_at place number) (draft.placed.pages ino number place there ne)).0) data_blocks draft.within))
+  data_from : AllByRecursion (λ at. data_start geom ≤ at) (map_list at_one data_blocks)
+  data_from = each-map (λ at. data_start geom ≤ at) at_one data_blocks (recursion_from_All (λ (one : Planned). data_start geom ≤ one.at) data_blocks
+      (All-weaker (IsPageOf places) (λ (one : Planned). data_start geom ≤ one.at) (λ one (ino, number, place, there, ne, is). subst (λ at. data_start geom ≤ at) (sym is) (data_range geom (page_at place number) (draft.placed.pages ino number place there ne)).0) data_blocks draft.within))
 
-  row_range : (ino : ℕ) (row : Row) → map.get tree ino ≡ Some row → (node_start extent ≤ at_of (map.get places row.ino)) × (at_of (map.get places row.ino) < data_start extent)
+  row_range : (ino : ℕ) (row : Row) → map.get tree ino ≡ Some row → (node_start geom ≤ at_of (map.get places row.ino)) × (at_of (map.get places row.ino) < data_start geom)
   row_range ino row there =
       let w = inode_of_row ino row there in
-      subst (λ at. (node_start extent ≤ at) × (at < data_start extent)) (sym (ap at_of w.there)) (node_range extent w.place.at (draft.placed.nodes row.ino w.place w.there))
+      subst (λ at. (node_start geom ≤ at) × (at < data_start geom)) (sym (ap at_of w.there)) (node_range geom w.place.at (draft.placed.nodes row.ino w.place w.there))
 
-  inodes_range : AllByRecursion (λ at. (node_start extent ≤ at) × (at < data_start extent)) (map_list at_one inodes.more)
-  inodes_range = subst (AllByRecursion (λ at. (node_start extent ≤ at) × (at < data_start extent))) (sym inodes.ats)
-      (each-map (λ at. (node_start extent ≤ at) × (at < data_start extent)) (λ (row : Row). at_of (map.get places row.ino)) (map.values tree)
-      (recursion_from_All (λ (row : Row). (node_start extent ≤ at_of (map.get places row.ino)) × (at_of (map.get places row.ino) < data_start extent)) (map.values tree) (each_value (λ (row : Row). (node_start extent ≤ at_of (map.get places row.ino)) × (at_of (map.get places row.ino) < data_start extent)) tree row_range)))
+  inodes_range : AllByRecursion (λ at. (node_start geom ≤ at) × (at < data_start geom)) (map_list at_one inodes.more)
+  inodes_range = subst (AllByRecursion (λ at. (node_start geom ≤ at) × (at < data_start geom))) (sym inodes.ats)
+      (each-map (λ at. (node_start geom ≤ at) × (at < data_start geom)) (λ (row : Row). at_of (map.get places row.ino)) (map.values tree)
+      (recursion_from_All (λ (row : Row). (node_start geom ≤ at_of (map.get places row.ino)) × (at_of (map.get places row.ino) < data_start geom)) (map.values tree) (each_value (λ (row : Row). (node_start geom ≤ at_of (map.get places row.ino)) × (at_of (map.get places row.ino) < data_start geom)) tree row_range)))
 
-  tables_range : AllByRecursion (λ at. (8 ≤ at) × (at < node_start extent)) (map_list at_one tables.more)
-  tables_range = subst (AllByRecursion (λ at. (8 ≤ at) × (at < node_start extent))) (sym tables.ats)
-      (each-map (λ at. (8 ≤ at) × (at < node_start extent)) (λ block. nat_address extent block next.second) (range_with_len 0 extent.nat)
-      (recursion_from_All (λ block. (8 ≤ nat_address extent block next.second) × (nat_address extent block next.second < node_start extent)) (range_with_len 0 extent.nat)
-      (all_range (λ block. (8 ≤ nat_address extent block next.second) × (nat_address extent block next.second < node_start extent)) extent.nat (table_low extent next.second))))
+  tables_range : AllByRecursion (λ at. (8 ≤ at) × (at < node_start geom)) (map_list at_one tables.more)
+  tables_range = subst (AllByRecursion (λ at. (8 ≤ at) × (at < node_start geom))) (sym tables.ats)
+      (each-map (λ at. (8 ≤ at) × (at < node_start geom)) (λ block. nat_address geom block next.second) (range_with_len 0 geom.nat)
+      (recursion_from_All (λ block. (8 ≤ nat_address geom block next.second) × (nat_address geom block next.second < node_start geom)) (range_with_len 0 geom.nat)
+      (all_range (λ block. (8 ≤ nat_address geom block next.second) × (nat_address geom block next.second < node_start geom)) geom.nat (table_low geom next.second))))
 
   last_low : AllByRecursion (λ at. at < 8) (map_list at_one last_blocks)
   last_low = let low = side_low (side_of next.side) in (low.0, (low.1, tt))
@@ -203,24 +203,24 @@ module _ (next : Next) (tree : Rows) (old places : PlaceMap) (data_blocks inode_
   all_ats : map_list at_one all ≡ map_list at_one table_blocks ++ map_list at_one last_blocks
   all_ats = ap (map_list at_one) pack.added ∙ map-append at_one table_blocks last_blocks
 
-  inode_blocks_from : AllByRecursion (λ at. node_start extent ≤ at) (map_list at_one inode_blocks)
-  inode_blocks_from = subst (AllByRecursion (λ at. node_start extent ≤ at)) (sym inode_blocks_ats)
-      (each-append (λ at. node_start extent ≤ at) (map_list at_one data_blocks) (map_list at_one inodes.more)
-      (each-weaker (λ at. data_start extent ≤ at) (λ at. node_start extent ≤ at) (λ at h. omega (arith, h)) (map_list at_one data_blocks) data_from)
-      (each-weaker (λ at. (node_start extent ≤ at) × (at < data_start extent)) (λ at. node_start extent ≤ at) (λ at h. h.0) (map_list at_one inodes.more) inodes_range))
+  inode_blocks_from : AllByRecursion (λ at. node_start geom ≤ at) (map_list at_one inode_blocks)
+  inode_blocks_from = subst (AllByRecursion (λ at. node_start geom ≤ at)) (sym inode_blocks_ats)
+      (each-append (λ at. node_start geom ≤ at) (map_list at_one data_blocks) (map_list at_one inodes.more)
+      (each-weaker (λ at. data_start geom ≤ at) (λ at. node_start geom ≤ at) (λ at h. omega (arith, h)) (map_list at_one data_blocks) data_from)
+      (each-weaker (λ at. (node_start geom ≤ at) × (at < data_start geom)) (λ at. node_start geom ≤ at) (λ at h. h.0) (map_list at_one inodes.more) inodes_range))
 
   table_blocks_from : AllByRecursion (λ at. 8 ≤ at) (map_list at_one table_blocks)
   table_blocks_from = subst (AllByRecursion (λ at. 8 ≤ at)) (sym table_blocks_ats)
       (each-append (λ at. 8 ≤ at) (map_list at_one inode_blocks) (map_list at_one tables.more)
-      (each-weaker (λ at. node_start extent ≤ at) (λ at. 8 ≤ at) (λ at h. omega (arith, h)) (map_list at_one inode_blocks) inode_blocks_from)
-      (each-weaker (λ at. (8 ≤ at) × (at < node_start extent)) (λ at. 8 ≤ at) (λ at h. h.0) (map_list at_one tables.more) tables_range))
+      (each-weaker (λ at. node_start geom ≤ at) (λ at. 8 ≤ at) (λ at h. omega (arith, h)) (map_list at_one inode_blocks) inode_blocks_from)
+      (each-weaker (λ at. (8 ≤ at) × (at < node_start geom)) (λ at. 8 ≤ at) (λ at h. h.0) (map_list at_one tables.more) tables_range))
 
   all_differ : AllDiffer (map_list at_one all)
   all_differ =
       let d = subst AllDiffer (sym inode_blocks_ats) (differ-append (map_list at_one data_blocks) (map_list at_one inodes.more) draft.once inodes_differ
-      (parted (data_start extent) (map_list at_one data_blocks) (map_list at_one inodes.more) data_from (each-weaker (λ at. (node_start extent ≤ at) × (at < data_start extent)) (λ at. at < data_start extent) (λ at h. h.1) (map_list at_one inodes.more) inodes_range))) in
-      let t = subst AllDiffer (sym table_blocks_ats) (differ-append (map_list at_one inode_blocks) (map_list at_one tables.more) d (subst AllDiffer (sym tables.ats) (table_rises extent next.second extent.nat).differ)
-      (parted (node_start extent) (map_list at_one inode_blocks) (map_list at_one tables.more) inode_blocks_from (each-weaker (λ at. (8 ≤ at) × (at < node_start extent)) (λ at. at < node_start extent) (λ at h. h.1) (map_list at_one tables.more) tables_range))) in
+      (parted (data_start geom) (map_list at_one data_blocks) (map_list at_one inodes.more) data_from (each-weaker (λ at. (node_start geom ≤ at) × (at < data_start geom)) (λ at. at < data_start geom) (λ at h. h.1) (map_list at_one inodes.more) inodes_range))) in
+      let t = subst AllDiffer (sym table_blocks_ats) (differ-append (map_list at_one inode_blocks) (map_list at_one tables.more) d (subst AllDiffer (sym tables.ats) (table_rises geom next.second geom.nat).differ)
+      (parted (node_start geom) (map_list at_one inode_blocks) (map_list at_one tables.more) inode_blocks_from (each-weaker (λ at. (8 ≤ at) × (at < node_start geom)) (λ at. at < node_start geom) (λ at h. h.1) (map_list at_one tables.more) tables_range))) in
       subst AllDiffer (sym all_ats) (differ-append (map_list at_one table_blocks) (map_list at_one last_blocks) t last_differ (parted 8 (map_list at_one table_blocks) (map_list at_one last_blocks) table_blocks_from last_low))
 
   pub is_plan : IsPlanOf tree old stored all tail
@@ -244,7 +244,7 @@ module _ (next : Next) (tree : Rows) (old places : PlaceMap) (data_blocks inode_
               pages = λ number low. page_written (page_at w.place number) (p.contents number) (subst (λ (place : Place). WritesPage data_blocks (page_at place number) (p.contents number)) same (p.pages number low));
             };
         only = draft.only;
-        table = λ block low. let w = tables.tables block low in record { bytes = w.bytes; written = table_written (nat_address extent block next.second) w.bytes w.written; entries = w.entries };
+        table = λ block low. let w = tables.tables block low in record { bytes = w.bytes; written = table_written (nat_address geom block next.second) w.bytes w.written; entries = w.entries };
         summary = (pack.summary, pack.empty, last_written summary_planned (0, omega arith, refl));
         head = record { pack = is_head.pack; version = is_head.version; low = is_head.low; newer = is_head.newer; bitmap = is_head.bitmap };
         head_written = last_written head_planned (1, omega arith, refl);
@@ -253,13 +253,13 @@ module _ (next : Next) (tree : Rows) (old places : PlaceMap) (data_blocks inode_
       }
 
   -- how many blocks there are
-  pub most_blocks : length all ≤ node_third extent + data_third extent + extent.nat + 2
+  pub most_blocks : length all ≤ node_third geom + data_third geom + geom.nat + 2
   most_blocks =
       let a = ap length pack.added ∙ length-append table_blocks last_blocks in
       let b = ap length tables.added ∙ length-append inode_blocks tables.more in
       let c = ap length inodes.added ∙ length-append data_blocks inodes.more in
       let i = sym (length-map inodes.more at_one) ∙ ap length inodes.ats ∙ length-map (map.values tree) (λ (row : Row). at_of (map.get places row.ino)) in
-      let t = sym (length-map tables.more at_one) ∙ ap length tables.ats ∙ length-map (range_with_len 0 extent.nat) (λ block. nat_address extent block next.second) ∙ length-range_with_len 0 extent.nat in
+      let t = sym (length-map tables.more at_one) ∙ ap length tables.ats ∙ length-map (range_with_len 0 geom.nat) (λ block. nat_address geom block next.second) ∙ length-range_with_len 0 geom.nat in
       let few = rows_few tree in
       let nodes = storable.nodes in
       let pages = draft.few in

@@ -12,7 +12,7 @@ use Rattle.std.specs.FinSet as set
 use Rattle.std.specs.FinSet.{contains-from_list}
 use Rattle.std.proofs.lemmas.List.{get_or_past}
 use Rattle.std.proofs.lemmas.List.Sums.{sum_by-cons}
-use Rattle.f2_format.specs.Geometry.{Extent, IsGeometry, nid_limit}
+use Rattle.f2_format.specs.Geometry.{ImageGeometry, IsGeometry, nid_limit}
 use Rattle.f2_format.specs.Inode.{SIZE_LIMIT}
 use Rattle.f2_format.specs.Offsets.{direct_of, inode_pages, node_count, nodes_over}
 use Rattle.f2_format.specs.Packing.{blocks_of_names}
@@ -106,7 +106,7 @@ one_page bytes = map.insert map.empty 0 bytes
 abbrev pub two_files : List ℕ → Rows
 two_files bytes = map.insert (map.insert root_alone 4 (file_row 4 98 4096 (one_page bytes))) 5 (file_row 5 97 0 map.empty)
 
-module _ (extent : Extent) (geometry : IsGeometry extent) where
+module _ (geom : ImageGeometry) (geometry : IsGeometry geom) where
   alone_values : map.values root_alone ≡ root_row ∷ []
   alone_values = ap (map_list (λ e. e.1)) alone_entries
 
@@ -132,7 +132,7 @@ module _ (extent : Extent) (geometry : IsGeometry extent) where
       ap (λ rows. sum_by (data_of_row rows) rows) alone_values ∙ (let sum = sum_by-cons (data_of_row rows) root_row [] in omega (arith, sum, root))
 
   -- an image can have the root alone
-  pub alone_storable : IsStorable extent root_alone
+  pub alone_storable : IsStorable geom root_alone
   alone_storable =
       let nodes = alone_nodes in
       let blocks = alone_blocks in
@@ -149,7 +149,7 @@ module _ (extent : Extent) (geometry : IsGeometry extent) where
           pages = each (λ k row. HasGoodPages SIZE_LIMIT row) (good_nothing root_row refl refl);
         };
         low = λ ino row h ne. absurd (ne (each (λ k row. k ≡ ROOT) refl ino row h));
-        numbered = each (λ k row. k < nid_limit extent) (omega (arith, nids, zones));
+        numbered = each (λ k row. k < nid_limit geom) (omega (arith, nids, zones));
         nodes = omega (arith, nodes, zones);
         blocks = omega (arith, blocks);
         short_files = λ ino page row bytes h g. absurd (no_some bytes (sym (get-empty nat_cmp page) ∙ ap (λ (m : FinMap nat_cmp (List ℕ)). map.get m page) (sym (each (λ k row. row.pages ≡ map.empty) refl ino row h)) ∙ g));
@@ -240,7 +240,7 @@ module _ (extent : Extent) (geometry : IsGeometry extent) where
         ap (λ rows. sum_by (data_of_row rows) rows) two_values ∙ omega (arith, root, b, a, s, t, u)
 
     -- an image can have the root with two files
-    pub two_storable : IsStorable extent (two_files bytes)
+    pub two_storable : IsStorable geom (two_files bytes)
     two_storable =
         let nodes = two_nodes in
         let blocks = two_blocks in
@@ -257,7 +257,7 @@ module _ (extent : Extent) (geometry : IsGeometry extent) where
             pages = each_two (λ k row. HasGoodPages SIZE_LIMIT row) (good_nothing root_row refl refl) good_page (good_nothing a_row refl refl);
           };
           low = each_two (λ k row. k ≢ ROOT → 4 ≤ k) (λ ne. absurd (ne refl)) (λ _. omega arith) (λ _. omega arith);
-          numbered = each_two (λ k row. k < nid_limit extent) (omega (arith, nids, zones)) (omega (arith, nids, zones)) (omega (arith, nids, zones));
+          numbered = each_two (λ k row. k < nid_limit geom) (omega (arith, nids, zones)) (omega (arith, nids, zones)) (omega (arith, nids, zones));
           nodes = omega (arith, nodes, zones);
           blocks = omega (arith, blocks, zones);
           short_files = λ ino page row content h. each_two (λ k row. map.get row.pages page ≡ Some content → page < inode_pages)
@@ -266,8 +266,8 @@ module _ (extent : Extent) (geometry : IsGeometry extent) where
         }
 
 -- no place takes no room
-pub nothing_kept : (extent : Extent) → IsKept extent map.empty
-nothing_kept extent =
+pub nothing_kept : (geom : ImageGeometry) → IsKept geom map.empty
+nothing_kept geom =
     let none = λ (ino : ℕ) (place : Place) (h : map.get map.empty ino ≡ Some place). no_some place (sym (get-empty nat_cmp ino) ∙ h) in
     let files = len-empty nat_cmp Place in
     let pages = ap (λ es. sum_by pages_of_place (map_list (λ e. e.1) es)) (no_entries {X = Place}) in

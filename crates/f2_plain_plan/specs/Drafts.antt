@@ -3,7 +3,7 @@ use Rattle.std.specs.Prelude.{◌≡◌, ◌≢◌, ℕ, ◌<◌, ◌≤◌, Lis
 use Rattle.std.specs.List.{sum_by}
 use Rattle.std.specs.FinMap as map
 use Rattle.f2_bitset.specs.Numbers.{IsLeastMissing}
-use Rattle.f2_format.specs.Geometry.{Extent, node_third, data_third}
+use Rattle.f2_format.specs.Geometry.{ImageGeometry, node_third, data_third}
 use Rattle.f2_format.specs.Offsets.{inode_pages}
 use Rattle.f2_image.specs.Reached.{AllDiffer}
 use Rattle.f2_laid.specs.Laid.{PlaceMap, page_at, pages_of_place, IsPlaced, HoldsContent}
@@ -36,13 +36,13 @@ abbrev pub IsPageOf : PlaceMap → Planned → Type 0
 IsPageOf places one = (ino page : ℕ) × (place : Place) × (map.get places ino ≡ Some place) × (page_at place page ≢ 0) × (one.at ≡ page_at place page)
 
 -- each row of a tree has a place away from the old ones, and its pages are planned
-pub record IsDraftOf (extent : Extent) (tree : Rows) (old places : PlaceMap) (blocks : List Planned) : Type 0 where
-  pub placed : IsPlaced extent places
+pub record IsDraftOf (geom : ImageGeometry) (tree : Rows) (old places : PlaceMap) (blocks : List Planned) : Type 0 where
+  pub placed : IsPlaced geom places
   pub apart : AreApart old places
   pub rows : (ino : ℕ) (row : Row) → map.get tree ino ≡ Some row → WritesPages blocks tree row places
   pub only : (ino : ℕ) (place : Place) → map.get places ino ≡ Some place → (row : Row) × map.get tree ino ≡ Some row
-  pub files : map.len places ≤ node_third extent
-  pub pages : sum_by pages_of_place (map.values places) ≤ data_third extent
-  pub few : length blocks ≤ data_third extent
+  pub files : map.len places ≤ node_third geom
+  pub pages : sum_by pages_of_place (map.values places) ≤ data_third geom
+  pub few : length blocks ≤ data_third geom
   pub within : All (IsPageOf places) blocks
   pub once : AllDiffer (map_list (λ (one : Planned). one.at) blocks)

@@ -3,7 +3,7 @@ ghost use Rattle.std.specs.Prelude.{◌≡◌, All, IfOk, Some};
 ghost use Rattle.std.specs.FinMap as map;
 ghost use Rattle.std.specs.Option.{option_copied};
 ghost use Rattle.f2_dentry_block.specs.Packed.{HasNameLength};
-ghost use Rattle.f2_format.specs.Geometry.{Extent};
+ghost use Rattle.f2_format.specs.Geometry.{ImageGeometry};
 ghost use Rattle.f2_laid.specs.Laid.{IsStorable};
 ghost use Rattle.f2_model.specs.Tree.{Rows};
 ghost use Rattle.f2_plain_plan.specs.Contents.{IsContentOf, content_at};
@@ -39,7 +39,7 @@ pub(crate) fn contents_of<'a>(
     row: &'a Row,
 ) -> Result<Contents<'a>, AllocError>
     requires { All (λ dent. HasNameLength dent.name) (dents_in directories.now row.now.ino) }
-    ensures { (extent : Extent) (tree : Rows) → IsStorable extent tree → IsNamesOf tree directories.now → map.get tree row.now.ino ≡ Some row.now
+    ensures { (geom : ImageGeometry) (tree : Rows) → IsStorable geom tree → IsNamesOf tree directories.now → map.get tree row.now.ino ≡ Some row.now
         → IfOk result (λ contents. IsContentOf tree row.now (content_at contents)) }
 {
     match row.kind {

@@ -5,7 +5,7 @@ use Rattle.std.specs.List.{AllByRecursion, list_any}
 use Rattle.std.specs.FinMap as map
 use Rattle.std.proofs.lemmas.Bool.{eqb-true, ne_eqb, lt-ltb, le-ltb, cases_lt}
 use Rattle.f2_format.specs.Dentry.{Dentry}
-use Rattle.f2_format.specs.Geometry.{Extent, IsGeometry}
+use Rattle.f2_format.specs.Geometry.{ImageGeometry, IsGeometry}
 use Rattle.f2_laid.specs.Laid.{IsStorable, IsBound, AreDentries}
 use Rattle.f2_laws.proofs.Maps.{get_put, get_put-other}
 use Rattle.f2_laws.proofs.Places.{same_or_other}
@@ -100,10 +100,10 @@ module _ (tree : Rows) (ino : ℕ) where
       by_row None e = refl
       by_row (Some row) e = bound-other ino row (none q row e)
 
-module _ (extent : Extent) (geometry : IsGeometry extent) (tree : Rows) (storable : IsStorable extent tree) (ino : ℕ) (dentries : List Dentry) (are : AreDentries tree ino dentries) (names : NameMap)
+module _ (geom : ImageGeometry) (geometry : IsGeometry geom) (tree : Rows) (storable : IsStorable geom tree) (ino : ℕ) (dentries : List Dentry) (are : AreDentries tree ino dentries) (names : NameMap)
     (told : (q : ℕ) → map.get names q ≡ bound_below ino (map.get tree q)) where
   pub names_fresh : AreFresh ino names dentries
-  names_fresh = fresh_all ino names dentries (each_weaker (IsBound tree ino) (λ (d : Dentry). map.get names d.ino ≡ None) none dentries (bound extent geometry tree storable ino dentries are)) (apart extent geometry tree storable ino dentries are)
+  names_fresh = fresh_all ino names dentries (each_weaker (IsBound tree ino) (λ (d : Dentry). map.get names d.ino ≡ None) none dentries (bound geom geometry tree storable ino dentries are)) (apart geom geometry tree storable ino dentries are)
     where
       none : (d : Dentry) → IsBound tree ino d → map.get names d.ino ≡ None
       none d b = told d.ino ∙ ap (bound_below ino) b.there ∙ bound-later ino b.row (omega (arith, b.parent))
@@ -112,7 +112,7 @@ module _ (extent : Extent) (geometry : IsGeometry extent) (tree : Rows) (storabl
   names_next q = by_row (map.get tree q) refl
     where
       all : AllByRecursion (IsBound tree ino) dentries
-      all = bound extent geometry tree storable ino dentries are
+      all = bound geom geometry tree storable ino dentries are
 
       any_here : Bool
       any_here = list_any (λ (d : Dentry). d.ino == q) dentries
@@ -144,7 +144,7 @@ module _ (extent : Extent) (geometry : IsGeometry extent) (tree : Rows) (storabl
           missed : list_any (λ (d : Dentry). d.ino == q) dentries ≡ false → (row.parent ≡ ino) ⊎ (row.parent ≢ ino) → (q ≡ ROOT) ⊎ (q ≢ ROOT) → bound_below ino (Some row) ≡ bound_below (ino + 1) (Some row)
           missed t (inr other) root = bound-other ino row other
           missed t (inl up) (inl root) = let own : row.ino ≡ ROOT = storable.good.keyed q row e ∙ root in bound-root ino row own ∙ sym (bound-root (ino + 1) row own)
-          missed t (inl up) (inr other) = absurd (true_false (sym (has_dentry extent geometry tree storable ino dentries are q row e other up) ∙ t))
+          missed t (inl up) (inr other) = absurd (true_false (sym (has_dentry geom geometry tree storable ino dentries are q row e other up) ∙ t))
             where
               true_false : true ≡ false → ⊥
               true_false h = cc

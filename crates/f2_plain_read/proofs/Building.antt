@@ -69,7 +69,7 @@ module _ {X : Type 0} (whole got : map.FinMap nat_cmp X) (ino : ℕ) where
 
 module _ (image : Image) (tree : Rows) (stored : Stored) (out : IsLaidOut image tree stored) where
   geometry : IsGeometry stored.geometry
-  geometry = subst IsGeometry out.laid.1.extent (sized_geometry image out.laid.0.extent out.laid.1.checkpoint.sized)
+  geometry = subst IsGeometry out.laid.1.geom (sized_geometry image out.laid.0.geom out.laid.1.checkpoint.sized)
 
   module _ (ino where_at : ℕ) (s : Stands image tree stored.places ino where_at) where
     -- a directory's pages are the blocks of its names

@@ -14,7 +14,7 @@ use Rattle.std.proofs.lemmas.List.{take_all, length-map}
 use Rattle.std.proofs.lemmas.List.Sums.{sum_by-cons, count_by_more_no, count_by_more_yes}
 use Rattle.f2_dentry_block.specs.Packed.{packed_blocks}
 use Rattle.f2_dentry_block.proofs.PackedBlocks.{length-packed_blocks}
-use Rattle.f2_format.specs.Geometry.{Extent}
+use Rattle.f2_format.specs.Geometry.{ImageGeometry}
 use Rattle.f2_format.specs.Offsets.{inode_pages, nodes_over, nodes_of_page, node_count}
 use Rattle.f2_format.specs.Packing.{blocks_of_names}
 use Rattle.f2_image.specs.Images.{Image, block_at}
@@ -192,7 +192,7 @@ module _ (image : Image) (tree : Rows) (stored : Stored) (out : IsLaidOut image 
       let few = sum_more (nodes_of_row rows) (λ row. some_node (page_numbers row.kind rows row)) rows in
       let pages = same_sum pages_of_place (data_of_row rows) stored.places tree (each_same pages_of_place (data_of_row rows) row_count) in
       record {
-        placed = subst (λ (x : Extent). IsPlaced x stored.places) out.laid.1.extent out.laid.1.placed;
+        placed = subst (λ (x : ImageGeometry). IsPlaced x stored.places) out.laid.1.geom out.laid.1.placed;
         files = omega (arith, len_is stored.places, sum_ones (map.values stored.places), ones, sum_ones rows, few, out.storable.nodes);
         pages = omega (arith, pages, out.storable.blocks);
       }

@@ -10,7 +10,7 @@ use Rattle.std.specs.FinMap.{nat_cmp-IsAntisymmetric}
 use Rattle.std.specs.FinSet as set
 use Rattle.std.proofs.lemmas.Bool.{cases_lt}
 use Rattle.std.proofs.lemmas.List.{take_all, get_or_past}
-use Rattle.f2_format.specs.Geometry.{Extent, node_third, data_third, is_in_node, is_in_data}
+use Rattle.f2_format.specs.Geometry.{ImageGeometry, node_third, data_third, is_in_node, is_in_data}
 use Rattle.f2_format.specs.Offsets.{inode_pages}
 use Rattle.f2_held.proofs.MapSums.{total_put}
 use Rattle.f2_laid.specs.Laid.{PlaceMap, IsKept, page_at, pages_of_place}
@@ -64,7 +64,7 @@ module _ {X : Type 0} (whole : map.FinMap nat_cmp X) where
       let none : unwrap_or (option_map count (map.get (below ino) ino)) 0 ≡ 0 = ap (λ (o : Option X). unwrap_or (option_map count o) 0) (not_yet ino) in
       ap (λ (m : map.FinMap nat_cmp X). sum_by count (map.values m)) (below-next ino x there) ∙ omega (arith, put, none)
 
-module _ (extent : Extent) (places : PlaceMap) (ino : ℕ) (nodes pages : Taken) (before : AreKeptBelow extent places ino nodes pages) where
+module _ (geom : ImageGeometry) (places : PlaceMap) (ino : ℕ) (nodes pages : Taken) (before : AreKeptBelow geom places ino nodes pages) where
   -- an ino without a place
   module _ (none : map.get places ino ≡ None) where
     lower : (q : ℕ) (place : Place) → q < ino + 1 → map.get places q ≡ Some place → q < ino
@@ -74,7 +74,7 @@ module _ (extent : Extent) (places : PlaceMap) (ino : ℕ) (nodes pages : Taken)
         by_ino (inl e) = absurd (some_none place (sym there ∙ ap (map.get places) e ∙ none))
         by_ino (inr other) = omega arith
 
-    pub kept_none : AreKeptBelow extent places (ino + 1) nodes pages
+    pub kept_none : AreKeptBelow geom places (ino + 1) nodes pages
     kept_none =
         record {
           whole = λ q place low there. before.whole q place (lower q place low there) there;
@@ -92,7 +92,7 @@ module _ (extent : Extent) (places : PlaceMap) (ino : ℕ) (nodes pages : Taken)
 
   module _ (place : Place) (there : map.get places ino ≡ Some place) where
     -- where the places are kept, the addresses of this one are free
-    pub free_node : IsKept extent places → IsFreeNode extent nodes place.at
+    pub free_node : IsKept geom places → IsFreeNode geom nodes place.at
     free_node kept = record { inside = kept.placed.nodes ino place there; free = not_true (set.contains nodes place.at) taken_before }
       where
         taken_before : set.contains nodes place.at ≡ true → ⊥
@@ -101,7 +101,7 @@ module _ (extent : Extent) (places : PlaceMap) (ino : ℕ) (nodes pages : Taken)
             let e : f.0 ≡ ino = kept.placed.nodes_apart f.0 ino f.1.0 place f.1.1.1 there f.1.1.2 in
             omega (arith, f.1.1.0, e)
 
-    pub new_pages : IsKept extent places → AreNew extent pages place.addresses inode_pages
+    pub new_pages : IsKept geom places → AreNew geom pages place.addresses inode_pages
     new_pages kept =
         record {
           inside = λ page low other. kept.placed.pages ino page place there other;
@@ -116,7 +116,7 @@ module _ (extent : Extent) (places : PlaceMap) (ino : ℕ) (nodes pages : Taken)
             omega (arith, f.1.1.1.0, e.0)
 
     -- one place more
-    module _ (all : length place.addresses ≡ inode_pages) (free : IsFreeNode extent nodes place.at) (more : Taken) (new : AreNew extent pages place.addresses inode_pages) (taken : AreTaken pages more place.addresses inode_pages) where
+    module _ (all : length place.addresses ≡ inode_pages) (free : IsFreeNode geom nodes place.at) (more : Taken) (new : AreNew geom pages place.addresses inode_pages) (taken : AreTaken pages more place.addresses inode_pages) where
       abbrev Which : ℕ → Place → Type 0
       Which q p = (q < ino) ⊎ ((q ≡ ino) × (p ≡ place))
 
@@ -141,9 +141,9 @@ module _ (extent : Extent) (places : PlaceMap) (ino : ℕ) (nodes pages : Taken)
       whole q p has (inl low) = before.whole q p low has
       whole q p has (inr e) = ap (λ (r : Place). length r.addresses) e.1 ∙ all
 
-      node_in : (q : ℕ) (p : Place) → map.get places q ≡ Some p → Which q p → IsTrue (is_in_node extent p.at)
+      node_in : (q : ℕ) (p : Place) → map.get places q ≡ Some p → Which q p → IsTrue (is_in_node geom p.at)
       node_in q p has (inl low) = before.node_in q p low has
-      node_in q p has (inr e) = ap (λ (r : Place). is_in_node extent r.at) e.1 ∙ free.inside
+      node_in q p has (inr e) = ap (λ (r : Place). is_in_node geom r.at) e.1 ∙ free.inside
 
       node_taken : (q : ℕ) (p : Place) → map.get places q ≡ Some p → Which q p → set.contains nodes_now p.at ≡ true
       node_taken q p has (inl low) = stays nodes place.at p.at (before.node_taken q p low has)
@@ -162,11 +162,11 @@ module _ (extent : Extent) (places : PlaceMap) (ino : ℕ) (nodes pages : Taken)
       nodes_apart q other a b has too e (inr f) (inl also) = absurd (node_fresh other b also too (sym e ∙ ap (λ (r : Place). r.at) f.1))
       nodes_apart q other a b has too e (inr f) (inr g) = f.0 ∙ sym g.0
 
-      page_in : (q page : ℕ) (p : Place) → map.get places q ≡ Some p → page_at p page ≢ 0 → Which q p → IsTrue (is_in_data extent (page_at p page))
+      page_in : (q page : ℕ) (p : Place) → map.get places q ≡ Some p → page_at p page ≢ 0 → Which q p → IsTrue (is_in_data geom (page_at p page))
       page_in q page p has other (inl low) = before.page_in q page p low has other
       page_in q page p has other (inr e) =
           let here_other : page_at place page ≢ 0 = λ none. other (ap (λ (r : Place). page_at r page) e.1 ∙ none) in
-          ap (λ (r : Place). is_in_data extent (page_at r page)) e.1 ∙ new.inside page (short page here_other) here_other
+          ap (λ (r : Place). is_in_data geom (page_at r page)) e.1 ∙ new.inside page (short page here_other) here_other
 
       page_taken : (q page : ℕ) (p : Place) → map.get places q ≡ Some p → page_at p page ≢ 0 → Which q p → set.contains more (page_at p page) ≡ true
       page_taken q page p has other (inl low) = taken.kept (page_at p page) (before.page_taken q page p low has other)
@@ -193,7 +193,7 @@ module _ (extent : Extent) (places : PlaceMap) (ino : ℕ) (nodes pages : Taken)
           let here_other : page_at place page ≢ 0 = λ none. there_is (ap (λ (r : Place). page_at r page) f.1 ∙ none) in
           (f.0 ∙ sym g.0, new.apart page own (short page here_other) (short own (λ none. here_other (same_at ∙ none))) here_other same_at)
 
-      pub kept_next : AreKeptBelow extent places (ino + 1) nodes_now more
+      pub kept_next : AreKeptBelow geom places (ino + 1) nodes_now more
       kept_next =
           record {
             whole = λ q p low has. whole q p has (which q p low has);
@@ -212,8 +212,8 @@ module _ (extent : Extent) (places : PlaceMap) (ino : ℕ) (nodes pages : Taken)
                 ∙ sym (sum-next places pages_of_place ino place there);
           }
 
-pub kept_nothing : (extent : Extent) (places : PlaceMap) (nodes pages : Taken) → nodes ≡ set.empty → pages ≡ set.empty → AreKeptBelow extent places 0 nodes pages
-kept_nothing extent places nodes pages no_nodes no_pages =
+pub kept_nothing : (geom : ImageGeometry) (places : PlaceMap) (nodes pages : Taken) → nodes ≡ set.empty → pages ≡ set.empty → AreKeptBelow geom places 0 nodes pages
+kept_nothing geom places nodes pages no_nodes no_pages =
     record {
       whole = λ q p low has. absurd (omega arith);
       node_in = λ q p low has. absurd (omega arith);
@@ -242,9 +242,9 @@ kept_nothing extent places nodes pages no_nodes no_pages =
         of_none (x ∷ es) e = absurd (omega (arith, e))
 
 -- all places are kept
-pub kept_all : (extent : Extent) (places : PlaceMap) (limit : ℕ) (nodes pages : Taken) → AreBelow limit places → AreKeptBelow extent places limit nodes pages → set.len nodes ≤ node_third extent → set.len pages ≤ data_third extent
-    → IsKept extent places
-kept_all extent places limit nodes pages below_limit are few_nodes few_pages =
+pub kept_all : (geom : ImageGeometry) (places : PlaceMap) (limit : ℕ) (nodes pages : Taken) → AreBelow limit places → AreKeptBelow geom places limit nodes pages → set.len nodes ≤ node_third geom → set.len pages ≤ data_third geom
+    → IsKept geom places
+kept_all geom places limit nodes pages below_limit are few_nodes few_pages =
     record {
       placed = record {
         whole = λ q place there. are.whole q place (low q place there) there;
@@ -260,9 +260,9 @@ kept_all extent places limit nodes pages below_limit are few_nodes few_pages =
     low : (q : ℕ) (place : Place) → map.get places q ≡ Some place → q < limit
     low q place there = below_limit q (λ none. some_none place (sym there ∙ none))
 
-pub few_enough : (extent : Extent) (places : PlaceMap) (limit : ℕ) (nodes pages : Taken) → AreBelow limit places → AreKeptBelow extent places limit nodes pages → IsKept extent places
-    → (set.len nodes ≤ node_third extent) × (set.len pages ≤ data_third extent)
-few_enough extent places limit nodes pages below_limit are kept = (
+pub few_enough : (geom : ImageGeometry) (places : PlaceMap) (limit : ℕ) (nodes pages : Taken) → AreBelow limit places → AreKeptBelow geom places limit nodes pages → IsKept geom places
+    → (set.len nodes ≤ node_third geom) × (set.len pages ≤ data_third geom)
+few_enough geom places limit nodes pages below_limit are kept = (
   omega (arith, are.files, ap map.len (below-all places limit below_limit), kept.files),
   omega (arith, are.page_count, ap (λ (m : PlaceMap). sum_by pages_of_place (map.values m)) (below-all places limit below_limit), kept.pages),
 )

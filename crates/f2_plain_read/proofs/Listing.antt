@@ -17,7 +17,7 @@ use Rattle.f2_dentry_block.specs.Packed.{names_of, packed_blocks, HasNameLength,
 use Rattle.f2_dentry_block.proofs.PackedBlocks.{length-packed_blocks}
 use Rattle.f2_dentry_block.proofs.ReadBack.{ReadsBack, packed-reads_back}
 use Rattle.f2_format.specs.Dentry.{Dentry, dentries_of, dentry_fault, REGULAR_TYPE, DIRECTORY_TYPE}
-use Rattle.f2_format.specs.Geometry.{Extent, IsGeometry}
+use Rattle.f2_format.specs.Geometry.{ImageGeometry, IsGeometry}
 use Rattle.f2_format.specs.Offsets.{inode_pages}
 use Rattle.f2_format.specs.Packing.{blocks_of_names}
 use Rattle.f2_image.specs.Images.{Image}
@@ -113,7 +113,7 @@ module _ (directory : ℕ) (p : List ℕ → Bool) where
   pub row_under : (tree : Rows) (k : ℕ) (row : Row) → map.get tree k ≡ Some row → row.ino ≢ ROOT → row.parent ≡ directory → p row.name ≡ true → any_under (map.values tree) ≡ true
   row_under tree k row has other up passes = found_under (entries tree) k row (sym (get-entries tree k) ∙ has) other up passes
 
-module _ (extent : Extent) (geometry : IsGeometry extent) (tree : Rows) (storable : IsStorable extent tree) (directory : ℕ) (dentries : List Dentry) (are : AreDentries tree directory dentries) where
+module _ (geom : ImageGeometry) (geometry : IsGeometry geom) (tree : Rows) (storable : IsStorable geom tree) (directory : ℕ) (dentries : List Dentry) (are : AreDentries tree directory dentries) where
   fits : (dentry : Dentry) → IsBound tree directory dentry → IsFitting dentry
   fits dentry bound =
       record {

@@ -6,7 +6,7 @@ use Rattle.std.specs.Cmp.{nat_cmp_total}
 use Rattle.std.specs.FinMap as map
 use Rattle.std.specs.FinMap.{nat_cmp-IsAntisymmetric}
 use Rattle.std.proofs.lemmas.Bool.{lt-ltb, cases_lt}
-use Rattle.f2_format.specs.Geometry.{Extent, nid_limit}
+use Rattle.f2_format.specs.Geometry.{ImageGeometry, nid_limit}
 use Rattle.f2_laid.specs.Laid.{PlaceMap, IsStorable}
 use Rattle.f2_laws.proofs.Maps.{get_taken-other}
 use Rattle.f2_model.specs.Tree.{Rows, ROOT}
@@ -17,7 +17,7 @@ use Rattle.f2_plain_read.specs.declared.names.Bound.{Bound}
 use Rattle.f2_plain_read.proofs.Building.{put_next, up_to-in, up_to-past}
 use Rattle.f2_plain_read.proofs.Standing.{one_some, some_none}
 
-module _ (extent : Extent) (tree : Rows) (stood : PlaceMap) (storable : IsStorable extent tree) (limit : ℕ) (limit_is : limit ≡ nid_limit extent) (built : Built) (is : IsBuilt tree stood limit built) where
+module _ (geom : ImageGeometry) (tree : Rows) (stood : PlaceMap) (storable : IsStorable geom tree) (limit : ℕ) (limit_is : limit ≡ nid_limit geom) (built : Built) (is : IsBuilt tree stood limit built) where
   -- a row of the tree, the bare row that was built of it, and its name
   pub record Named (ino : ℕ) (row : Row) (bound : Option Bound) : Type 0 where
     pub whole : Row

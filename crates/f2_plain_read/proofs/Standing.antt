@@ -38,14 +38,14 @@ pub record Stands (image : Image) (tree : Rows) (stood : PlaceMap) (ino where_at
   pub content : HoldsContent tree row (page_in image place)
 
 module _ (image : Image) (tree : Rows) (stored : Stored) (out : IsLaidOut image tree stored) where
-  abbrev point : Checkpoint
-  point = out.laid.0
+  abbrev ckpt : Checkpoint
+  ckpt = out.laid.0
 
-  abbrev laid : IsLaidAt image point tree stored
+  abbrev laid : IsLaidAt image ckpt tree stored
   laid = out.laid.1
 
-  pub geometry_is : point.extent ≡ stored.geometry
-  geometry_is = laid.extent
+  pub geometry_is : ckpt.geom ≡ stored.geometry
+  geometry_is = laid.geom
 
   -- where a file stands that has an address
   place_there : (ino where_at : ℕ) → where_at ≡ at_of (map.get stored.places ino) → where_at ≢ 0 → (place : Place) × (map.get stored.places ino ≡ Some place) × (place.at ≡ where_at)
@@ -74,18 +74,18 @@ module _ (image : Image) (tree : Rows) (stored : Stored) (out : IsLaidOut image 
       }
 
   pub node_there : (ino : ℕ) (place : Place) → map.get stored.places ino ≡ Some place → 0 < place.at
-  node_there ino place there = (node_within point.extent (sized_geometry image point.extent laid.checkpoint.sized) place.at (laid.placed.nodes ino place there)).1
+  node_there ino place there = (node_within ckpt.geom (sized_geometry image ckpt.geom laid.checkpoint.sized) place.at (laid.placed.nodes ino place there)).1
 
   -- a node and a page that are there stand in the image
   pub node_short : (ino where_at : ℕ) → Stands image tree stored.places ino where_at → (where_at < length image) × (0 < where_at)
   node_short ino where_at s =
-      let inside = node_within point.extent (sized_geometry image point.extent laid.checkpoint.sized) s.place.at (laid.placed.nodes ino s.place s.there) in
-      (omega (arith, inside.0, sized_fits image point.extent laid.checkpoint.sized, s.at_place), omega (arith, inside.1, s.at_place))
+      let inside = node_within ckpt.geom (sized_geometry image ckpt.geom laid.checkpoint.sized) s.place.at (laid.placed.nodes ino s.place s.there) in
+      (omega (arith, inside.0, sized_fits image ckpt.geom laid.checkpoint.sized, s.at_place), omega (arith, inside.1, s.at_place))
 
   pub no_page_past : (ino where_at : ℕ) (s : Stands image tree stored.places ino where_at) → ¬ (ReachesPast image s.place)
   no_page_past ino where_at s past =
-      let inside = data_within point.extent (sized_geometry image point.extent laid.checkpoint.sized) (page_at s.place past.0) (laid.placed.pages ino past.0 s.place s.there past.1.0) in
-      omega (arith, inside.0, sized_fits image point.extent laid.checkpoint.sized, past.1.1)
+      let inside = data_within ckpt.geom (sized_geometry image ckpt.geom laid.checkpoint.sized) (page_at s.place past.0) (laid.placed.pages ino past.0 s.place s.there past.1.0) in
+      omega (arith, inside.0, sized_fits image ckpt.geom laid.checkpoint.sized, past.1.1)
 
   -- the pages of a regular file
   pub pages_are : (ino where_at : ℕ) (s : Stands image tree stored.places ino where_at) → s.row.kind ≡ Regular → (pages : PageMap) → ArePagesAt image s.place pages → pages ≡ s.row.pages

@@ -7,7 +7,7 @@ use Rattle.std.specs.Cmp.{nat_cmp_total, unsigned_tied}
 use Rattle.std.specs.FinSet as set
 use Rattle.std.proofs.lemmas.Bool.{eqb-true, ne_eqb}
 use Rattle.std.proofs.lemmas.List.Sums.{count_by_more_no, count_by_more_yes}
-use Rattle.f2_format.specs.Geometry.{Extent, is_in_data}
+use Rattle.f2_format.specs.Geometry.{ImageGeometry, is_in_data}
 use Rattle.f2_laws.proofs.Places.{same_or_other}
 use Rattle.f2_plain_read.specs.Keeping.{IsFreePage, AreNew, IsAmong, AreTaken}
 
@@ -46,7 +46,7 @@ module _ (taken : Taken) (at : ℕ) where
   pub one_more : set.contains taken at ≡ false → set.len (set.insert taken at) ≡ set.len taken + 1
   one_more none = set.len-insert nat_cmp_total taken at ∙ ap (λ (b : Bool). cond b (set.len taken) (set.len taken + 1)) none
 
-module _ (extent : Extent) (old now : Taken) (addresses : List ℕ) (i : ℕ) where
+module _ (geom : ImageGeometry) (old now : Taken) (addresses : List ℕ) (i : ℕ) where
   abbrev at_page : ℕ → ℕ
   at_page page = slice_index addresses page
 
@@ -69,7 +69,7 @@ module _ (extent : Extent) (old now : Taken) (addresses : List ℕ) (i : ℕ) wh
         by_page (inl same) = absurd (there (ap at_page same ∙ zero))
         by_page (inr other) = omega arith
 
-    pub new_zero : AreNew extent old addresses i → AreNew extent old addresses (i + 1)
+    pub new_zero : AreNew geom old addresses i → AreNew geom old addresses (i + 1)
     new_zero new =
         record {
           inside = λ page below there. new.inside page (lower page below there) there;
@@ -91,8 +91,8 @@ module _ (extent : Extent) (old now : Taken) (addresses : List ℕ) (i : ℕ) wh
         by_part q (inr h) = inr (among_more q h)
 
   -- an address that is there and free
-  module _ (there : at_page i ≢ 0) (free : IsFreePage extent now (at_page i)) (taken : AreTaken old now addresses i) where
-    pub new_more : AreNew extent old addresses i → AreNew extent old addresses (i + 1)
+  module _ (there : at_page i ≢ 0) (free : IsFreePage geom now (at_page i)) (taken : AreTaken old now addresses i) where
+    pub new_more : AreNew geom old addresses i → AreNew geom old addresses (i + 1)
     new_more new =
         record {
           inside = λ page below other. by_inside page below other (same_or_other page i);
@@ -100,8 +100,8 @@ module _ (extent : Extent) (old now : Taken) (addresses : List ℕ) (i : ℕ) wh
           apart = λ page more below also other same. by_apart page more below also other same (same_or_other page i) (same_or_other more i);
         }
       where
-        by_inside : (page : ℕ) → page < i + 1 → at_page page ≢ 0 → (page ≡ i) ⊎ (page ≢ i) → IsTrue (is_in_data extent (at_page page))
-        by_inside page below other (inl same) = ap (λ (n : ℕ). is_in_data extent (at_page n)) same ∙ free.inside
+        by_inside : (page : ℕ) → page < i + 1 → at_page page ≢ 0 → (page ≡ i) ⊎ (page ≢ i) → IsTrue (is_in_data geom (at_page page))
+        by_inside page below other (inl same) = ap (λ (n : ℕ). is_in_data geom (at_page n)) same ∙ free.inside
         by_inside page below other (inr apart) = new.inside page (omega arith) other
 
         by_fresh : (page : ℕ) → page < i + 1 → at_page page ≢ 0 → (page ≡ i) ⊎ (page ≢ i) → set.contains old (at_page page) ≡ false
@@ -146,7 +146,7 @@ module _ (extent : Extent) (old now : Taken) (addresses : List ℕ) (i : ℕ) wh
         counted e = omega (arith, e)
 
   -- where all are new, the next one is free
-  pub free_here : (count : ℕ) → AreNew extent old addresses count → i < count → AreTaken old now addresses i → at_page i ≢ 0 → IsFreePage extent now (at_page i)
+  pub free_here : (count : ℕ) → AreNew geom old addresses count → i < count → AreTaken old now addresses i → at_page i ≢ 0 → IsFreePage geom now (at_page i)
   free_here count new below taken there =
       record {
         inside = new.inside i below there;
@@ -158,8 +158,8 @@ module _ (extent : Extent) (old now : Taken) (addresses : List ℕ) (i : ℕ) wh
       by_part (inr h) = let same : h.0 ≡ i = new.apart h.0 i (omega (arith, h.1.0)) below (λ none. there (sym h.1.1 ∙ none)) h.1.1 in omega (arith, h.1.0, same)
 
 -- nothing was taken yet
-pub new_none : (extent : Extent) (old : Taken) (addresses : List ℕ) → AreNew extent old addresses 0
-new_none extent old addresses = record { inside = λ page below there. absurd (omega arith); fresh = λ page below there. absurd (omega arith); apart = λ page more below also there same. absurd (omega arith) }
+pub new_none : (geom : ImageGeometry) (old : Taken) (addresses : List ℕ) → AreNew geom old addresses 0
+new_none geom old addresses = record { inside = λ page below there. absurd (omega arith); fresh = λ page below there. absurd (omega arith); apart = λ page more below also there same. absurd (omega arith) }
 
 pub taken_none : (old : Taken) (addresses : List ℕ) → AreTaken old old addresses 0
 taken_none old addresses = record { members = λ q h. inl h; kept = λ q h. h; added = λ q h. absurd (omega (arith, h.1.0)); count_is = omega arith }

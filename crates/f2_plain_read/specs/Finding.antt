@@ -8,11 +8,11 @@ use Rattle.f2_plain_read.specs.Building.{IsBuilt}
 use Rattle.f2_plain_read.specs.Points.{IsPointOf}
 use Rattle.f2_plain_read.specs.Reads.{IsLaidOut}
 use Rattle.f2_plain_read.specs.declared.built.Built.{Built}
-use Rattle.f2_plain_read.specs.declared.point.Point.{Point}
+use Rattle.f2_plain_read.specs.declared.ckpt.Point.{Point}
 
 -- all files of a tree that is laid out were built, as its checkpoint tells of them
-pub record IsReadOf (image : Image) (tree : Rows) (stored : Stored) (point : Point) (limit : ℕ) (built : Built) : Type 0 where
+pub record IsReadOf (image : Image) (tree : Rows) (stored : Stored) (ckpt : Point) (limit : ℕ) (built : Built) : Type 0 where
   pub out : IsLaidOut image tree stored
-  pub point_is : IsPointOf stored point
+  pub ckpt_is : IsPointOf stored ckpt
   pub all : limit ≡ nid_limit stored.geometry
   pub files : IsBuilt tree stored.places limit built

@@ -5,7 +5,7 @@ ghost use Rattle.f2_disk.specs.Using.{IsCaused, OnlyReads};
 ghost use Rattle.f2_image.specs.Images.{Image};
 ghost use Rattle.f2_model.specs.Tree.{Rows};
 ghost use Rattle.f2_model.specs.declared.rows.Row.{Row as TreeRow};
-ghost use Rattle.f2_format.specs.Geometry.{Extent, nid_limit};
+ghost use Rattle.f2_format.specs.Geometry.{ImageGeometry, nid_limit};
 ghost use Rattle.f2_laid.specs.Laid.{PlaceMap, IsStorable, at_of};
 ghost use Rattle.f2_laid.specs.declared.stored.Stored.{Stored};
 ghost use Rattle.f2_plain_read.specs.Told.{Tells};
@@ -119,9 +119,9 @@ pub(crate) fn name_rows(
     built: Built,
     limit: u32,
 ) -> Result<(Tree, Places), BuildFault>
-    ensures tree { IfOk result (λ named. (extent : Extent) (tree : Rows) (stood : PlaceMap) → IsStorable extent tree → limit ≡ nid_limit extent → IsBuilt tree stood limit built → named.0 ≡ tree) }
+    ensures tree { IfOk result (λ named. (geom : ImageGeometry) (tree : Rows) (stood : PlaceMap) → IsStorable geom tree → limit ≡ nid_limit geom → IsBuilt tree stood limit built → named.0 ≡ tree) }
     ensures places { IfOk result (λ named. named.1 ≡ built.places) }
-    ensures bad { result ≡ Err BuildFault.Bad → (extent : Extent) (tree : Rows) (stood : PlaceMap) → IsStorable extent tree → limit ≡ nid_limit extent → ¬ (IsBuilt tree stood limit built) }
+    ensures bad { result ≡ Err BuildFault.Bad → (geom : ImageGeometry) (tree : Rows) (stood : PlaceMap) → IsStorable geom tree → limit ≡ nid_limit geom → ¬ (IsBuilt tree stood limit built) }
 {
     let Built {
         mut rows,

@@ -12,12 +12,12 @@
 
 mod blocks;
 mod built;
+mod ckpt;
 mod dentries;
 mod faults;
 mod files;
 mod kept;
 mod names;
-mod point;
 mod reading;
 mod table;
 

@@ -11,9 +11,9 @@ ghost use Rattle.f2_plain_read.specs.Building.{AreBelow};
 ghost use Rattle.f2_plain_read.specs.Finding.{IsReadOf};
 
 use crate::built::{Built, name_rows, read_files};
+use crate::ckpt::{Point, read_point};
 use crate::faults::{BuildFault, ReadFault};
 use crate::kept::is_kept;
-use crate::point::{Point, read_point};
 use crate::table::read_table;
 use f2_disk::Disk;
 use f2_laid::Stored;
@@ -49,32 +49,32 @@ pub fn read<D: Disk>(alloc: Global, disk: &mut D) -> Result<Found, ReadFault>
     ensures reads { OnlyReads D.contents D.meter disk.old disk.new }
     ensures cause { IsCaused ReadFault.Read result D.meter disk.old disk.new }
 {
-    let point = read_point(alloc, disk)?;
-    let table = read_table(alloc, disk, &point.geometry, point.second)?;
+    let ckpt = read_point(alloc, disk)?;
+    let table = read_table(alloc, disk, &ckpt.geometry, ckpt.second)?;
     let built = read_files(alloc, disk, &table)?;
-    let found = found_of(alloc, point, built, table.len() as u32)?;
+    let found = found_of(alloc, ckpt, built, table.len() as u32)?;
     Ok(found)
 }
 
 /// What was found, where its tree can be stored and its places are kept.
-fn found_of(alloc: Global, point: Point, built: Built, limit: u32) -> Result<Found, BuildFault>
+fn found_of(alloc: Global, ckpt: Point, built: Built, limit: u32) -> Result<Found, BuildFault>
     requires below { AreBelow limit built.places }
-    requires version { point.version ≤ MOST_VERSION }
-    ensures found { IfOk result (λ found. (image : Image) (tree : Rows) (stored : Told) → IsReadOf image tree stored point limit built → (found.tree ≡ tree) × (found.stored ≡ stored)) }
-    ensures sound { IfOk result (λ found. (blocks : ℕ) → point.geometry.blocks ≤ blocks → IsSoundOn blocks found.tree found.stored) }
-    ensures bad { result ≡ Err BuildFault.Bad → (image : Image) (tree : Rows) (stored : Told) → ¬ (IsReadOf image tree stored point limit built) }
+    requires version { ckpt.version ≤ MOST_VERSION }
+    ensures found { IfOk result (λ found. (image : Image) (tree : Rows) (stored : Told) → IsReadOf image tree stored ckpt limit built → (found.tree ≡ tree) × (found.stored ≡ stored)) }
+    ensures sound { IfOk result (λ found. (blocks : ℕ) → ckpt.geometry.blocks ≤ blocks → IsSoundOn blocks found.tree found.stored) }
+    ensures bad { result ≡ Err BuildFault.Bad → (image : Image) (tree : Rows) (stored : Told) → ¬ (IsReadOf image tree stored ckpt limit built) }
 {
     let (tree, places) = name_rows(alloc, built, limit)?;
-    if !is_storable(alloc, &tree, &point.geometry)?
-        || !is_kept(alloc, &point.geometry, &places, limit)?
+    if !is_storable(alloc, &tree, &ckpt.geometry)?
+        || !is_kept(alloc, &ckpt.geometry, &places, limit)?
     {
         return Err(BuildFault::Bad);
     }
     let stored = Stored {
-        geometry: point.geometry,
-        side: point.side,
-        version: point.version,
-        second: point.second,
+        geometry: ckpt.geometry,
+        side: ckpt.side,
+        version: ckpt.version,
+        second: ckpt.second,
         places,
     };
     Ok(Found { tree, stored })

@@ -7,12 +7,12 @@ use Rattle.std.specs.FinMap as map
 use Rattle.std.specs.FinMap.{len-empty}
 use Rattle.std.proofs.lemmas.List.{length-set}
 use Rattle.f2_format.specs.Bytes.{number_at}
-use Rattle.f2_format.specs.Geometry.{Extent, IsGeometry, data_start, data_third}
+use Rattle.f2_format.specs.Geometry.{ImageGeometry, IsGeometry, data_start, data_third}
 use Rattle.f2_format.specs.Footer.{footer_version}
 use Rattle.f2_format.specs.Pack.{head_of}
-use Rattle.f2_format.specs.Superblock.{IsSuper, super_block, super_extent}
+use Rattle.f2_format.specs.Superblock.{IsSuper, super_block, super_geom}
 use Rattle.f2_format.proofs.BytesLemmas.{number_at-same}
-use Rattle.f2_layout.proofs.SuperLemmas.{IsSuper-super_block, super_extent-super_block}
+use Rattle.f2_layout.proofs.SuperLemmas.{IsSuper-super_block, super_geom-super_block}
 use Rattle.f2_disk.specs.Contents.{Contents, zeros}
 use Rattle.f2_image.specs.Images.{Image, block_at, by_first}
 use Rattle.f2_image.specs.Packs.{other_side, head_address, tail_address, IsValid}
@@ -53,15 +53,15 @@ unfolding zeros zero_list
 zeros_number at = zero_number 4096 at
 
 -- a superblock tells its sizes
-super_is : (extent : Extent) → IsGeometry extent → super_extent (super_block extent) ≡ extent
-super_is extent geometry = super_extent-super_block extent (omega (arith, geometry.most_blocks)) (omega (arith, geometry.most_nat))
+super_is : (geom : ImageGeometry) → IsGeometry geom → super_geom (super_block geom) ≡ geom
+super_is geom geometry = super_geom-super_block geom (omega (arith, geometry.most_blocks)) (omega (arith, geometry.most_nat))
 
 -- a checkpoint may be written to a blank image
 blank_ready : (image : Image) (next : Stored) → IsGeometry next.geometry → IsBlank next.geometry image → next.side ≡ pack.A → next.version ≡ 1 → IsReadyFor image next
 blank_ready image next geometry blank side version =
     record {
       sized = by_first (subst (λ (b : List ℕ). IsSuper b (length image)) (sym blank.first) (IsSuper-super_block next.geometry (length image) geometry blank.size))
-          (sym (super_is next.geometry geometry) ∙ ap super_extent (sym blank.first));
+          (sym (super_is next.geometry geometry) ∙ ap super_geom (sym blank.first));
       blocks = blank.size;
       other = λ valid. absurd (counts_not valid);
       tail = omega (arith, ap (λ s. (head_of (block_at image (tail_address (other_side (side_of s))))).version) side, zero_version 7 (omega arith) (omega arith));
@@ -80,8 +80,8 @@ blank_ready image next geometry blank side version =
         omega (arith, valid.version, ap (λ s. (head_of (block_at image (head_address (other_side (side_of s))))).version) side, zero_version 5 (omega arith) (omega arith))
 
 -- no file has no places
-pub none_kept : (extent : Extent) → IsKept extent map.empty
-none_kept extent =
+pub none_kept : (geom : ImageGeometry) → IsKept geom map.empty
+none_kept geom =
     record {
       placed = record {
         whole = λ ino place held. absurd (empty_has ino place held);
@@ -91,16 +91,16 @@ none_kept extent =
         pages_apart = λ ino page other more a b held _ _ _. absurd (empty_has ino a held);
       };
       files = omega (arith, len-empty nat_cmp Place);
-      pages = subst (λ (places : List Place). sum_by pages_of_place places ≤ data_third extent) (sym no_values) (omega arith);
+      pages = subst (λ (places : List Place). sum_by pages_of_place places ≤ data_third geom) (sym no_values) (omega arith);
     }
   where
     no_values : map.values (map.empty {X = Place} {R = nat_cmp}) ≡ []
     no_values = ap (map_list (λ e. e.1)) none_before
 
 -- a blank image, with the first checkpoint, is made
-pub first_made : (next : Stored) (extent : Extent) (plan : List Planned) (tail : List ℕ) → next.geometry ≡ extent → IsGeometry extent → next.side ≡ pack.A → next.version ≡ 1
-    → IsPlanOf root_alone map.empty next plan tail → (a b c : Contents) → HasBlank extent a b → IsPlanWritten plan (tail_of next) tail b c → IsMade next a c
-first_made next extent plan tail same sound side version is a b c has written = (now, written image has.1, supers, made image root_alone next map.empty plan tail storable ready is)
+pub first_made : (next : Stored) (geom : ImageGeometry) (plan : List Planned) (tail : List ℕ) → next.geometry ≡ geom → IsGeometry geom → next.side ≡ pack.A → next.version ≡ 1
+    → IsPlanOf root_alone map.empty next plan tail → (a b c : Contents) → HasBlank geom a b → IsPlanWritten plan (tail_of next) tail b c → IsMade next a c
+first_made next geom plan tail same sound side version is a b c has written = (now, written image has.1, supers, made image root_alone next map.empty plan tail storable ready is)
   where
     image : Image
     image = has.0
@@ -112,7 +112,7 @@ first_made next extent plan tail same sound side version is a b c has written = 
     geometry = subst IsGeometry (sym same) sound
 
     blank : IsBlank next.geometry image
-    blank = subst (λ (e : Extent). IsBlank e image) (sym same) has.2
+    blank = subst (λ (e : ImageGeometry). IsBlank e image) (sym same) has.2
 
     storable : IsStorable next.geometry root_alone
     storable = root_storable next.geometry geometry
@@ -134,5 +134,5 @@ first_made next extent plan tail same sound side version is a b c has written = 
     supers : HasBothSupers next.geometry now
     supers at less = (
       subst (λ (b : List ℕ). IsSuper b (length now)) (sym (super_there at less)) (IsSuper-super_block next.geometry (length now) geometry (omega (arith, size, blank.size))),
-      ap super_extent (super_there at less) ∙ super_is next.geometry geometry,
+      ap super_geom (super_there at less) ∙ super_is next.geometry geometry,
     )

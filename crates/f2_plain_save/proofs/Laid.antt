@@ -5,10 +5,10 @@ use Rattle.std.specs.List.{range_with_len}
 use Rattle.std.specs.Option.{unwrap_or}
 use Rattle.std.proofs.lemmas.Bool.{cases_eq, ne_eqb}
 use Rattle.f2_format.specs.Offsets.{inode_pages}
-use Rattle.f2_format.specs.Geometry.{Extent, IsGeometry, ENTRIES_A_NAT_BLOCK}
+use Rattle.f2_format.specs.Geometry.{ImageGeometry, IsGeometry, ENTRIES_A_NAT_BLOCK}
 use Rattle.f2_format.specs.Nat.{nat_entry, nat_block_of, nat_place_of}
 use Rattle.f2_format.specs.Journal.{journal_of, journal_entry, journal_count, journal_find}
-use Rattle.f2_format.specs.Superblock.{IsSuper, super_extent}
+use Rattle.f2_format.specs.Superblock.{IsSuper, super_geom}
 use Rattle.f2_model.specs.Tree.{Rows}
 use Rattle.f2_model.specs.declared.rows.Row.{Row}
 use Rattle.f2_image.specs.Images.{Image, block_at, IsRightCopy, IsSized, by_first, by_second}
@@ -22,22 +22,22 @@ right_same image other at size same right =
     subst (λ (n : ℕ). IsSuper (block_at other at) n) (sym size) (subst (λ (b : List ℕ). IsSuper b (length image)) (sym same) right)
 
 -- sizes depend on the superblocks alone
-pub sized_same : (image other : Image) (extent : Extent) → length other ≡ length image → block_at other 0 ≡ block_at image 0 → block_at other 1 ≡ block_at image 1
-    → IsSized image extent → IsSized other extent
-sized_same image other extent size first second (by_first right is) =
-    by_first (right_same image other 0 size first right) (is ∙ ap (λ (b : List ℕ). super_extent b) (sym first))
-sized_same image other extent size first second (by_second wrong right is) =
+pub sized_same : (image other : Image) (geom : ImageGeometry) → length other ≡ length image → block_at other 0 ≡ block_at image 0 → block_at other 1 ≡ block_at image 1
+    → IsSized image geom → IsSized other geom
+sized_same image other geom size first second (by_first right is) =
+    by_first (right_same image other 0 size first right) (is ∙ ap (λ (b : List ℕ). super_geom b) (sym first))
+sized_same image other geom size first second (by_second wrong right is) =
     by_second (λ too. wrong (right_same other image 0 (sym size) (sym first) too)) (right_same image other 1 size second right)
-    (is ∙ ap (λ (b : List ℕ). super_extent b) (sym second))
+    (is ∙ ap (λ (b : List ℕ). super_geom b) (sym second))
 
 -- an image of known sizes breaks no limit and has its blocks
-pub sized_geometry : (image : Image) (extent : Extent) → IsSized image extent → IsGeometry extent
-sized_geometry image extent (by_first right is) = subst IsGeometry (sym is) right.geometry
-sized_geometry image extent (by_second wrong right is) = subst IsGeometry (sym is) right.geometry
+pub sized_geometry : (image : Image) (geom : ImageGeometry) → IsSized image geom → IsGeometry geom
+sized_geometry image geom (by_first right is) = subst IsGeometry (sym is) right.geometry
+sized_geometry image geom (by_second wrong right is) = subst IsGeometry (sym is) right.geometry
 
-pub sized_blocks : (image : Image) (extent : Extent) → IsSized image extent → extent.blocks ≤ length image
-sized_blocks image extent (by_first right is) = subst (λ (e : Extent). e.blocks ≤ length image) (sym is) right.within
-sized_blocks image extent (by_second wrong right is) = subst (λ (e : Extent). e.blocks ≤ length image) (sym is) right.within
+pub sized_blocks : (image : Image) (geom : ImageGeometry) → IsSized image geom → geom.blocks ≤ length image
+sized_blocks image geom (by_first right is) = subst (λ (e : ImageGeometry). e.blocks ≤ length image) (sym is) right.within
+sized_blocks image geom (by_second wrong right is) = subst (λ (e : ImageGeometry). e.blocks ≤ length image) (sym is) right.within
 
 -- a pack of a greater version goes before the other
 pub greater_first : (image : Image) (side : Side) → version_of image (other_side side) < version_of image side → GoesBefore image side
@@ -68,10 +68,10 @@ there_same image other at same =
 empty_journal : (summary : List ℕ) → journal_count summary ≡ 0 → journal_of summary ≡ []
 empty_journal summary e = ap (λ (n : ℕ). map (journal_entry summary) (range_with_len 0 n)) e
 
-pub place_in_table : (image : Image) (point : Checkpoint) (nid : ℕ) → journal_count point.summary ≡ 0 → place_of_nid image point nid ≡ nat_entry (nat_copy image point (nat_block_of nid)) (nat_place_of nid)
+pub place_in_table : (image : Image) (ckpt : Checkpoint) (nid : ℕ) → journal_count ckpt.summary ≡ 0 → place_of_nid image ckpt nid ≡ nat_entry (nat_copy image ckpt (nat_block_of nid)) (nat_place_of nid)
 unfolding place_of_nid
-place_in_table image point nid none =
-    ap (λ entries. unwrap_or (journal_find entries nid) (nat_entry (nat_copy image point (nat_block_of nid)) (nat_place_of nid))) (empty_journal point.summary none)
+place_in_table image ckpt nid none =
+    ap (λ entries. unwrap_or (journal_find entries nid) (nat_entry (nat_copy image ckpt (nat_block_of nid)) (nat_place_of nid))) (empty_journal ckpt.summary none)
 
 -- a nid stands in a block of the table, at its place in it
 pub block_less : (nid nat : ℕ) → nid < ENTRIES_A_NAT_BLOCK * nat → nat_block_of nid < nat

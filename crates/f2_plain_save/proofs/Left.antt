@@ -3,7 +3,7 @@ use Rattle.std.proofs.Common.{◌≡◌, ◌≢◌, inl, inr, ℕ, ◌<◌, ◌�
 use Rattle.std.specs.Prelude.{Option, Some, None}
 use Rattle.std.specs.FinMap as map
 use Rattle.std.proofs.lemmas.List.Elements.{All-contains}
-use Rattle.f2_format.specs.Geometry.{Extent, IsGeometry, nid_limit, is_in_node, nat_address}
+use Rattle.f2_format.specs.Geometry.{ImageGeometry, IsGeometry, nid_limit, is_in_node, nat_address}
 use Rattle.f2_format.specs.Nat.{nat_entry, nat_block_of, nat_place_of, is_second_copy}
 use Rattle.f2_format.specs.Footer.{footer_version}
 use Rattle.f2_format.specs.Pack.{IsPack, head_of}
@@ -24,18 +24,18 @@ use Rattle.f2_plain_save.proofs.Targets.{IsInodeAt, IsPageAt, above, off_tails, 
 use Rattle.f2_plain_save.proofs.Laid.{sized_same, sized_geometry, content_same, there_same, place_in_table, block_less}
 use Rattle.f2_plain_save.proofs.Made.{inode_unlogged}
 
-module _ (image other : Image) (tree new : Rows) (stored next : Stored) (plan : List Planned) (tail : List ℕ) (point : Checkpoint)
-    (storable : IsStorable next.geometry new) (laid : IsLaidAt image point tree stored) (after : IsNext stored next)
+module _ (image other : Image) (tree new : Rows) (stored next : Stored) (plan : List Planned) (tail : List ℕ) (ckpt : Checkpoint)
+    (storable : IsStorable next.geometry new) (laid : IsLaidAt image ckpt tree stored) (after : IsNext stored next)
     (is : IsPlanOf new stored.places next plan tail) (partly : IsPartlyWritten image other plan) where
   -- the plan's geometry is that of the image
-  same_extent : next.geometry ≡ point.extent
-  same_extent = after.geometry ∙ sym laid.extent
+  same_geom : next.geometry ≡ ckpt.geom
+  same_geom = after.geometry ∙ sym laid.geom
 
   geometry : IsGeometry next.geometry
-  geometry = subst IsGeometry (sym same_extent) (sized_geometry image point.extent laid.checkpoint.sized)
+  geometry = subst IsGeometry (sym same_geom) (sized_geometry image ckpt.geom laid.checkpoint.sized)
 
   -- the side of the last checkpoint is the other one of the plan
-  own_side : other_side (side_of next.side) ≡ point.side
+  own_side : other_side (side_of next.side) ≡ ckpt.side
   own_side = ap other_side after.side ∙ (other_twice (side_of stored.side) ∙ sym laid.side)
 
   target : (at : ℕ) (bytes : List ℕ) → Writes plan at bytes → IsWriteOf next at
@@ -51,19 +51,19 @@ module _ (image other : Image) (tree new : Rows) (stored next : Stored) (plan : 
   tail_kept : (each : Side) → block_at other (tail_address each) ≡ block_at image (tail_address each)
   tail_kept each = kept (tail_address each) (λ write. off_tails next geometry is.placed each _ write refl)
 
-  head_kept : block_at other (head_address point.side) ≡ block_at image (head_address point.side)
-  head_kept = kept (head_address point.side) (λ write. off_head next geometry is.placed _ write (ap head_address (sym own_side)))
+  head_kept : block_at other (head_address ckpt.side) ≡ block_at image (head_address ckpt.side)
+  head_kept = kept (head_address ckpt.side) (λ write. off_head next geometry is.placed _ write (ap head_address (sym own_side)))
 
-  summary_kept : block_at other (summary_address point.side) ≡ block_at image (summary_address point.side)
-  summary_kept = kept (summary_address point.side) (λ write. off_summary next geometry is.placed _ write (ap summary_address (sym own_side)))
+  summary_kept : block_at other (summary_address ckpt.side) ≡ block_at image (summary_address ckpt.side)
+  summary_kept = kept (summary_address ckpt.side) (λ write. off_summary next geometry is.placed _ write (ap summary_address (sym own_side)))
 
   -- the new pack doesn't count before its tail is written
-  newest : IsNewest point.extent other point.side
+  newest : IsNewest ckpt.geom other ckpt.side
   newest =
       record {
-        valid = subst (λ (b : List ℕ). IsPack point.extent b (block_at other (tail_address point.side))) (sym head_kept)
-            (subst (IsPack point.extent (block_at image (head_address point.side))) (sym (tail_kept point.side)) laid.checkpoint.newest.valid);
-        newest = λ valid. elim (partly.blocks (head_address (other_side point.side))) [ inl same ↦ as_before valid same | inr found ↦ absurd (counts valid found) ];
+        valid = subst (λ (b : List ℕ). IsPack ckpt.geom b (block_at other (tail_address ckpt.side))) (sym head_kept)
+            (subst (IsPack ckpt.geom (block_at image (head_address ckpt.side))) (sym (tail_kept ckpt.side)) laid.checkpoint.newest.valid);
+        newest = λ valid. elim (partly.blocks (head_address (other_side ckpt.side))) [ inl same ↦ as_before valid same | inr found ↦ absurd (counts valid found) ];
       }
     where
       goes_same : (side : Side) → block_at other (head_address side) ≡ block_at image (head_address side) → block_at other (head_address (other_side side)) ≡ block_at image (head_address (other_side side))
@@ -71,59 +71,59 @@ module _ (image other : Image) (tree new : Rows) (stored next : Stored) (plan : 
       goes_same A e f goes = omega (arith, ap (λ (b : List ℕ). (head_of b).version) e, ap (λ (b : List ℕ). (head_of b).version) f, goes)
       goes_same B e f goes = omega (arith, ap (λ (b : List ℕ). (head_of b).version) e, ap (λ (b : List ℕ). (head_of b).version) f, goes)
 
-      as_before : IsValid point.extent other (other_side point.side) → block_at other (head_address (other_side point.side)) ≡ block_at image (head_address (other_side point.side)) → GoesBefore other point.side
+      as_before : IsValid ckpt.geom other (other_side ckpt.side) → block_at other (head_address (other_side ckpt.side)) ≡ block_at image (head_address (other_side ckpt.side)) → GoesBefore other ckpt.side
       as_before valid same =
-          goes_same point.side head_kept same
+          goes_same ckpt.side head_kept same
           (laid.checkpoint.newest.newest
-          (subst (λ (b : List ℕ). IsPack point.extent b (block_at image (tail_address (other_side point.side)))) same
-          (subst (IsPack point.extent (block_at other (head_address (other_side point.side)))) (tail_kept (other_side point.side)) valid)))
+          (subst (λ (b : List ℕ). IsPack ckpt.geom b (block_at image (tail_address (other_side ckpt.side)))) same
+          (subst (IsPack ckpt.geom (block_at other (head_address (other_side ckpt.side)))) (tail_kept (other_side ckpt.side)) valid)))
 
-      plan_side : side_of next.side ≡ other_side point.side
+      plan_side : side_of next.side ≡ other_side ckpt.side
       plan_side = sym (other_twice (side_of next.side)) ∙ ap other_side own_side
 
-      counts : IsValid point.extent other (other_side point.side) → Writes plan (head_address (other_side point.side)) (block_at other (head_address (other_side point.side))) → ⊥
+      counts : IsValid ckpt.geom other (other_side ckpt.side) → Writes plan (head_address (other_side ckpt.side)) (block_at other (head_address (other_side ckpt.side))) → ⊥
       counts valid found =
-          let planned : Writes plan (head_address (other_side point.side)) tail = subst (λ (s : Side). Writes plan (head_address s) tail) plan_side is.head_written in
-          let head : block_at other (head_address (other_side point.side)) ≡ tail = written_once plan _ _ tail is.once found planned in
-          let end : block_at image (tail_address (other_side point.side)) ≡ tail = sym (tail_kept (other_side point.side)) ∙ (valid.same ∙ head) in
-          omega (arith, laid.tails (other_side point.side), ap (λ (b : List ℕ). (head_of b).version) end, is.head.version, after.version, laid.version)
+          let planned : Writes plan (head_address (other_side ckpt.side)) tail = subst (λ (s : Side). Writes plan (head_address s) tail) plan_side is.head_written in
+          let head : block_at other (head_address (other_side ckpt.side)) ≡ tail = written_once plan _ _ tail is.once found planned in
+          let end : block_at image (tail_address (other_side ckpt.side)) ≡ tail = sym (tail_kept (other_side ckpt.side)) ∙ (valid.same ∙ head) in
+          omega (arith, laid.tails (other_side ckpt.side), ap (λ (b : List ℕ). (head_of b).version) end, is.head.version, after.version, laid.version)
 
-  checkpoint : IsCheckpoint other point
+  checkpoint : IsCheckpoint other ckpt
   checkpoint =
       record {
-        sized = sized_same image other point.extent partly.size (super_kept 0 (omega arith)) (super_kept 1 (omega arith)) laid.checkpoint.sized;
+        sized = sized_same image other ckpt.geom partly.size (super_kept 0 (omega arith)) (super_kept 1 (omega arith)) laid.checkpoint.sized;
         newest = newest;
         head = laid.checkpoint.head ∙ ap head_of (sym head_kept);
         summary = laid.checkpoint.summary ∙ sym summary_kept;
       }
 
   -- the copy of the table that counts is as it was
-  entry : (nid : ℕ) → nid < nid_limit point.extent → (place_of_nid other point nid).1 ≡ at_of (map.get stored.places nid)
+  entry : (nid : ℕ) → nid < nid_limit ckpt.geom → (place_of_nid other ckpt nid).1 ≡ at_of (map.get stored.places nid)
   entry nid less =
-      let at = nat_address point.extent (nat_block_of nid) (is_second_copy point.head.bitmap (nat_block_of nid)) in
+      let at = nat_address ckpt.geom (nat_block_of nid) (is_second_copy ckpt.head.bitmap (nat_block_of nid)) in
       let same : block_at other at ≡ block_at image at = kept at (λ write. off_copy next geometry is.placed (nat_block_of nid) at in_plan write here) in
-      ap (λ (p : ℕ × ℕ). p.1) (place_in_table other point nid laid.journal)
+      ap (λ (p : ℕ × ℕ). p.1) (place_in_table other ckpt nid laid.journal)
       ∙ ap (λ (b : List ℕ). (nat_entry b (nat_place_of nid)).1) same
-      ∙ sym (ap (λ (p : ℕ × ℕ). p.1) (place_in_table image point nid laid.journal))
+      ∙ sym (ap (λ (p : ℕ × ℕ). p.1) (place_in_table image ckpt nid laid.journal))
       ∙ laid.table nid less
     where
-      small : nat_block_of nid < point.extent.nat
-      small = block_less nid point.extent.nat less
+      small : nat_block_of nid < ckpt.geom.nat
+      small = block_less nid ckpt.geom.nat less
 
       in_plan : nat_block_of nid < next.geometry.nat
-      in_plan = subst (λ (e : Extent). nat_block_of nid < e.nat) (sym same_extent) small
+      in_plan = subst (λ (e : ImageGeometry). nat_block_of nid < e.nat) (sym same_geom) small
 
-      old_copy : is_second_copy point.head.bitmap (nat_block_of nid) ≡ not next.second
-      old_copy = laid.copies (nat_block_of nid) (subst (λ (e : Extent). nat_block_of nid < e.nat) laid.extent small) ∙ (not_twice stored.second ∙ ap not (sym after.second))
+      old_copy : is_second_copy ckpt.head.bitmap (nat_block_of nid) ≡ not next.second
+      old_copy = laid.copies (nat_block_of nid) (subst (λ (e : ImageGeometry). nat_block_of nid < e.nat) laid.geom small) ∙ (not_twice stored.second ∙ ap not (sym after.second))
         where
           not_twice : (b : Rattle.std.specs.Prelude.Bool) → b ≡ not (not b)
           not_twice b = grind arith
 
-      here : nat_address point.extent (nat_block_of nid) (is_second_copy point.head.bitmap (nat_block_of nid)) ≡ nat_address next.geometry (nat_block_of nid) (not next.second)
-      here = ap (nat_address point.extent (nat_block_of nid)) old_copy ∙ ap (λ (e : Extent). nat_address e (nat_block_of nid) (not next.second)) (sym same_extent)
+      here : nat_address ckpt.geom (nat_block_of nid) (is_second_copy ckpt.head.bitmap (nat_block_of nid)) ≡ nat_address next.geometry (nat_block_of nid) (not next.second)
+      here = ap (nat_address ckpt.geom (nat_block_of nid)) old_copy ∙ ap (λ (e : ImageGeometry). nat_address e (nat_block_of nid) (not next.second)) (sym same_geom)
 
   placed : IsPlaced next.geometry stored.places
-  placed = subst (λ (e : Extent). IsPlaced e stored.places) (sym same_extent) laid.placed
+  placed = subst (λ (e : ImageGeometry). IsPlaced e stored.places) (sym same_geom) laid.placed
 
   -- a row stands where it stood
   stands : (ino : ℕ) (row : Row) → map.get tree ino ≡ Some row → StandsIn other tree row stored.places
@@ -152,20 +152,20 @@ module _ (image other : Image) (tree new : Rows) (stored next : Stored) (plan : 
               apart spot = is.apart.pages ino page spot.ino spot.page place spot.place there spot.there some spot.is
 
   -- no block of the node zone is of a node log
-  unlogged : (at : ℕ) → IsTrue (is_in_node point.extent at) → footer_version (block_at other at) ≡ 0
+  unlogged : (at : ℕ) → IsTrue (is_in_node ckpt.geom at) → footer_version (block_at other at) ≡ 0
   unlogged at zone = elim (partly.blocks at) [ inl same ↦ ap footer_version same ∙ laid.unlogged at zone | inr found ↦ written found ]
     where
       written : Writes plan at (block_at other at) → footer_version (block_at other at) ≡ 0
-      written found = by_spot (in_nodes next geometry is.placed at (subst (λ (e : Extent). IsTrue (is_in_node e at)) (sym same_extent) zone) (target at _ found))
+      written found = by_spot (in_nodes next geometry is.placed at (subst (λ (e : ImageGeometry). IsTrue (is_in_node e at)) (sym same_geom) zone) (target at _ found))
         where
           by_spot : IsInodeAt next at → footer_version (block_at other at) ≡ 0
           by_spot spot = inode_unlogged new stored.places next plan tail storable is at spot.ino spot.place _ spot.there spot.is found
 
-  pub left : IsLaidAt other point tree stored
+  pub left : IsLaidAt other ckpt tree stored
   left =
       record {
         checkpoint = checkpoint;
-        extent = laid.extent;
+        geom = laid.geom;
         side = laid.side;
         version = laid.version;
         low = laid.low;
@@ -177,5 +177,5 @@ module _ (image other : Image) (tree new : Rows) (stored next : Stored) (plan : 
         only = laid.only;
         placed = laid.placed;
         unlogged = unlogged;
-        tails = λ each. subst (λ (b : List ℕ). (head_of b).version ≤ point.head.version) (sym (tail_kept each)) (laid.tails each);
+        tails = λ each. subst (λ (b : List ℕ). (head_of b).version ≤ ckpt.head.version) (sym (tail_kept each)) (laid.tails each);
       }

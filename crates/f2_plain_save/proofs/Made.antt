@@ -83,8 +83,8 @@ module _ (image : Image) (tree : Rows) (stored : Stored) (old : PlaceMap) (plan 
   head_there : block_at last (head_address (side_of stored.side)) ≡ tail
   head_there = there (head_address (side_of stored.side)) tail is.head_written
 
-  point : Checkpoint
-  point = record { extent = stored.geometry; side = side_of stored.side; head = head_of tail; summary = block_at last (summary_address (side_of stored.side)) }
+  ckpt : Checkpoint
+  ckpt = record { geom = stored.geometry; side = side_of stored.side; head = head_of tail; summary = block_at last (summary_address (side_of stored.side)) }
 
   -- the superblocks are as they were
   super_kept : (at : ℕ) → at < 2 → block_at last at ≡ block_at image at
@@ -124,20 +124,20 @@ module _ (image : Image) (tree : Rows) (stored : Stored) (old : PlaceMap) (plan 
           omega (arith, before, ap (λ (b : List ℕ). (head_of b).version) other_head, ap (λ (b : List ℕ). (head_of b).version) head_there, is.head.version)
 
   -- a nid's entry is in the copy that was written
-  entry : (nid : ℕ) → nid < nid_limit stored.geometry → (place_of_nid last point nid).1 ≡ at_of (map.get stored.places nid)
-  unfolding point
+  entry : (nid : ℕ) → nid < nid_limit stored.geometry → (place_of_nid last ckpt nid).1 ≡ at_of (map.get stored.places nid)
+  unfolding ckpt
   entry nid less =
       let block = nat_block_of nid in
       let small : nat_block_of nid < stored.geometry.nat = block_less nid stored.geometry.nat less in
       let writes : WritesTable plan stored (nat_block_of nid) = is.table (nat_block_of nid) small in
       let copy : is_second_copy (head_of tail).bitmap (nat_block_of nid) ≡ stored.second = is.head.bitmap (nat_block_of nid) small in
-      ap (λ (p : ℕ × ℕ). p.1) (place_in_table last point nid empty)
+      ap (λ (p : ℕ × ℕ). p.1) (place_in_table last ckpt nid empty)
       ∙ ap (λ b. (nat_entry (block_at last (nat_address stored.geometry (nat_block_of nid) b)) (nat_place_of nid)).1) copy
       ∙ ap (λ (b : List ℕ). (nat_entry b (nat_place_of nid)).1) (there _ writes.bytes writes.written)
       ∙ writes.entries (nat_place_of nid) (place_less nid)
       ∙ ap (λ n. at_of (map.get stored.places n)) (nid_again nid)
     where
-      empty : journal_count point.summary ≡ 0
+      empty : journal_count ckpt.summary ≡ 0
       empty = ap journal_count (there _ is.summary.0 is.summary.2) ∙ is.summary.1
 
   -- a row stands where the plan writes it
@@ -186,12 +186,12 @@ module _ (image : Image) (tree : Rows) (stored : Stored) (old : PlaceMap) (plan 
       by_side B e A = subst (λ (s : Side). (head_of (block_at last (tail_address (other_side s)))).version ≤ stored.version) (sym e) others
 
   pub made : IsLaid (set (put_all image plan) (tail_address (side_of stored.side)) tail) tree stored
-  unfolding last point
+  unfolding last ckpt
   made = (
-    point,
+    ckpt,
     record {
       checkpoint = record { sized = sized; newest = newest; head = ap head_of (sym head_there); summary = refl };
-      extent = refl;
+      geom = refl;
       side = refl;
       version = is.head.version;
       low = is.head.low;

@@ -13,7 +13,7 @@ use Rattle.std.specs.FinSet.{contains-empty, members}
 use Rattle.std.proofs.lemmas.Bool.{cases_eq, ne_eqb}
 use Rattle.std.proofs.lemmas.Option.{none-some}
 use Rattle.std.proofs.lemmas.List.{nil_from_length}
-use Rattle.f2_format.specs.Geometry.{Extent, IsGeometry, node_third, data_third, nid_limit}
+use Rattle.f2_format.specs.Geometry.{ImageGeometry, IsGeometry, node_third, data_third, nid_limit}
 use Rattle.f2_format.specs.Inode.{SIZE_LIMIT}
 use Rattle.f2_format.specs.Offsets.{inode_pages, node_count, nodes_over}
 use Rattle.f2_format.specs.Packing.{blocks_of_names}
@@ -99,14 +99,14 @@ root_good =
       pages = λ ino row held. subst (HasGoodPages SIZE_LIMIT) (sym (only ino row held).1) good_pages;
     }
 
-pub root_storable : (extent : Extent) → IsGeometry extent → IsStorable extent root_alone
-root_storable extent geometry =
+pub root_storable : (geom : ImageGeometry) → IsGeometry geom → IsStorable geom root_alone
+root_storable geom geometry =
     record {
       good = root_good;
       low = λ ino row held apart. absurd (apart (only ino row held).0);
-      numbered = λ ino row held. small ino (nid_limit extent) (3 * node_third extent) (only ino row held).0 geometry.nids;
+      numbered = λ ino row held. small ino (nid_limit geom) (3 * node_third geom) (only ino row held).0 geometry.nids;
       nodes = omega (arith, nodes_of_root, geometry.zones);
-      blocks = subst (λ n. n ≤ data_third extent) (sym data_of_root) (none_less (data_third extent));
+      blocks = subst (λ n. n ≤ data_third geom) (sym data_of_root) (none_less (data_third geom));
       short_files = λ ino page row bytes held found. absurd (empty_has page bytes (ap (λ (r : Row). map.get r.pages page) (sym (only ino row held).1) ∙ found));
       short_directories = λ ino row held _. subst (λ n. n ≤ inode_pages) (sym (ap (dentry_blocks (map.values root_alone)) (only ino row held).0 ∙ dentries_of_root)) (none_less inode_pages);
     }

@@ -1,6 +1,6 @@
 -- A checkpoint that is written after another.
 use Rattle.std.proofs.Common.{◌≡◌, inl, inr, ℕ, ◌<◌, ◌≤◌, List, set, IsTrue, sym, ap, ◌∙◌, subst, arith}
-use Rattle.f2_format.specs.Geometry.{Extent, is_in_node}
+use Rattle.f2_format.specs.Geometry.{ImageGeometry, is_in_node}
 use Rattle.f2_format.specs.Pack.{HeadFields, head_of}
 use Rattle.f2_disk.specs.Contents.{Contents, IsImage}
 use Rattle.f2_model.specs.Tree.{Rows}
@@ -27,15 +27,15 @@ ready image tree old next laid after =
       blocks = sized_blocks image next.geometry sized;
       other = λ _. subst (λ (s : Side). version_of image s < next.version) (sym side) before;
       tail = subst (λ (s : Side). (head_of (block_at image (tail_address s))).version ≤ next.version) (sym side) tail;
-      unlogged = λ at zone. laid.1.unlogged at (subst (λ (e : Extent). IsTrue (is_in_node e at)) extent zone);
+      unlogged = λ at zone. laid.1.unlogged at (subst (λ (e : ImageGeometry). IsTrue (is_in_node e at)) geom zone);
       first = omega (arith, after.version);
     }
   where
-    extent : next.geometry ≡ laid.0.extent
-    extent = after.geometry ∙ sym laid.1.extent
+    geom : next.geometry ≡ laid.0.geom
+    geom = after.geometry ∙ sym laid.1.geom
 
     sized : IsSized image next.geometry
-    sized = subst (IsSized image) (sym extent) laid.1.checkpoint.sized
+    sized = subst (IsSized image) (sym geom) laid.1.checkpoint.sized
 
     side : other_side (side_of next.side) ≡ laid.0.side
     side = ap other_side after.side ∙ (other_twice (side_of old.side) ∙ sym laid.1.side)
@@ -49,7 +49,7 @@ ready image tree old next laid after =
 module _ (old next : Stored) (tree : Rows) (plan : List Planned) (tail : List ℕ)
     (old_storable : IsStorable old.geometry tree) (after : IsNext old next) (is : IsPlanOf tree old.places next plan tail) where
   storable : IsStorable next.geometry tree
-  storable = subst (λ (e : Extent). IsStorable e tree) (sym after.geometry) old_storable
+  storable = subst (λ (e : ImageGeometry). IsStorable e tree) (sym after.geometry) old_storable
 
   whole : (image : Image) (base : Rows) → IsLaid image base old → IsLaid (set (put_all image plan) (tail_of next) tail) tree next
   whole image base laid = made image tree next old.places plan tail storable (ready image base old next laid after) is

@@ -1,7 +1,7 @@
 -- What saving a tree, and making an image, comes to.
 use Rattle.std.specs.Prelude.{◌≡◌, ◌⊎◌, ℕ, ◌+◌, ◌<◌}
-use Rattle.f2_format.specs.Geometry.{Extent, node_third, data_third}
-use Rattle.f2_format.specs.Superblock.{super_extent}
+use Rattle.f2_format.specs.Geometry.{ImageGeometry, node_third, data_third}
+use Rattle.f2_format.specs.Superblock.{super_geom}
 use Rattle.f2_disk.specs.Contents.{Contents, alone, IsImage}
 use Rattle.f2_model.specs.Tree.{Rows}
 use Rattle.f2_image.specs.Images.{Image, block_at, IsRightCopy}
@@ -10,8 +10,8 @@ use Rattle.f2_laid.specs.declared.stored.Stored.{Stored}
 
 -- the most blocks that a checkpoint writes but for its tail: a third of each zone, one copy of the table, the summary
 -- and the head of a pack
-abbrev pub most_writes : Extent → ℕ
-most_writes extent = node_third extent + data_third extent + extent.nat + 2
+abbrev pub most_writes : ImageGeometry → ℕ
+most_writes geom = node_third geom + data_third geom + geom.nat + 2
 
 -- a disk held one image, in which a tree that can be stored is laid out
 pub record Held (old : Stored) (before : Contents) (image : Image) (base : Rows) : Type 0 where
@@ -29,8 +29,8 @@ IsSafelySaved old tree before after =
     (image : Image) (base : Rows) → Held old before image base → (left : Image) → IsImage after left → IsLaid left base old ⊎ ((next : Stored) × IsLaid left tree next)
 
 -- both superblocks are right and tell these sizes
-abbrev pub HasBothSupers : Extent → Image → Type 0
-HasBothSupers extent image = (at : ℕ) → at < 2 → IsRightCopy image at × (super_extent (block_at image at) ≡ extent)
+abbrev pub HasBothSupers : ImageGeometry → Image → Type 0
+HasBothSupers geom image = (at : ℕ) → at < 2 → IsRightCopy image at × (super_geom (block_at image at) ≡ geom)
 
 -- a disk holds one image, in which the root alone is laid out
 abbrev pub IsMade : Stored → Contents → Contents → Type 0

@@ -3,7 +3,7 @@ use Rattle.std.proofs.Common.{◌≡◌, ℕ, Bool, true, false, List, [], ◌�
 use Rattle.std.specs.Prelude.{if◌then◌else◌}
 use Rattle.std.specs.List.{AllByRecursion}
 use Rattle.std.proofs.lemmas.Grind.{flat_map-append}
-use Rattle.f2_format.specs.Geometry.{Extent, breaks_blocks, breaks_nat, breaks_zones, breaks_nids}
+use Rattle.f2_format.specs.Geometry.{ImageGeometry, breaks_blocks, breaks_nat, breaks_zones, breaks_nids}
 use Rattle.f2_layout.specs.Refusal.{geometry_of}
 use Rattle.f2_layout.specs.declared.geometry.BadGeometry.{BadGeometry}
 use Rattle.f2_layout.specs.declared.geometry.Limit.{Limit}
@@ -18,12 +18,12 @@ use Rattle.f2_play.specs.Faults.{Planned, planned_at, AreCounted}
 use Rattle.f2_play.specs.Scripts.{PlaysScript, BreaksLimit}
 
 -- sizes that pass one test
-if-ok : (b : Bool) (bad : BadGeometry) (rest : Result Extent BadGeometry) (g : Extent) → (if b then Err bad else rest) ≡ Ok g → rest ≡ Ok g
+if-ok : (b : Bool) (bad : BadGeometry) (rest : Result ImageGeometry BadGeometry) (g : ImageGeometry) → (if b then Err bad else rest) ≡ Ok g → rest ≡ Ok g
 if-ok true bad rest g h = cc
 if-ok false bad rest g h = h
 
 -- sizes that break no limit are the sizes that were asked for
-pub geometry_of-ok : (e g : Extent) → geometry_of e ≡ Ok g → g ≡ e
+pub geometry_of-ok : (e g : ImageGeometry) → geometry_of e ≡ Ok g → g ≡ e
 geometry_of-ok e g h =
     let last : Ok e ≡ Ok g = if-ok (breaks_nids e) _ _ g (if-ok (breaks_zones e) _ _ g (if-ok (breaks_nat e) _ _ g (if-ok (breaks_blocks e) _ _ g h))) in
     cc

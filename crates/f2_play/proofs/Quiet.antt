@@ -1,7 +1,7 @@
 -- Where no `fail` line and no `stop` line stands no call of the disk failed in any event.
 use Rattle.std.proofs.Common.{◌≡◌, ◌+◌, ◌≤◌, ℕ, List, [], ◌∷◌, refl, sym, ap, subst, arith}
 use Rattle.std.specs.List.{AllByRecursion}
-use Rattle.f2_format.specs.Geometry.{Extent}
+use Rattle.f2_format.specs.Geometry.{ImageGeometry}
 use Rattle.f2_model.specs.declared.bounds.Limits.{Limits}
 use Rattle.f2_model.specs.State.{State}
 use Rattle.f2_model.specs.Step.{Faults, HasRisen}
@@ -80,11 +80,11 @@ quiet-lines limits count from to (one ∷ lines) (part ∷ parts) played plans c
     )
 
 -- a whole script, from its `mkfs` line on
-pub quiet-image : (size : ℕ) (extent : Extent) (lines : List Line) (parts : List Part) → PlaysImage size extent lines parts → AllByRecursion PlansNothing lines → AllByRecursion IsQuietPart parts
-quiet-image size extent lines parts image plans =
-    let limits = granted size extent in
-    let counted : AreCounted (nothing_planned image.count) image.count (line.Mkfs extent.blocks extent.nat ∷ lines) (image.first ∷ image.rest) =
-    subst (λ ps. AreCounted (nothing_planned image.count) image.count (line.Mkfs extent.blocks extent.nat ∷ lines) ps) image.whole image.counted in
+pub quiet-image : (size : ℕ) (geom : ImageGeometry) (lines : List Line) (parts : List Part) → PlaysImage size geom lines parts → AllByRecursion PlansNothing lines → AllByRecursion IsQuietPart parts
+quiet-image size geom lines parts image plans =
+    let limits = granted size geom in
+    let counted : AreCounted (nothing_planned image.count) image.count (line.Mkfs geom.blocks geom.nat ∷ lines) (image.first ∷ image.rest) =
+    subst (λ ps. AreCounted (nothing_planned image.count) image.count (line.Mkfs geom.blocks geom.nat ∷ lines) ps) image.whole image.counted in
     let least = before-after limits image.first.faults _ image.first.events image.first.after image.made.happened in
     let most = counted.2 refl in
     let same : image.first.faults.after ≡ image.count = omega (arith, most, least, counted.0) in

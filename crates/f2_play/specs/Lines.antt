@@ -1,6 +1,6 @@
 -- What each line prints, the events that it makes, and the state after it.
 use Rattle.std.specs.Prelude.{◌≡◌, ◌≢◌, ℕ, ◌-◌, true, List, [], ◌∷◌, ◌++◌, codes, if◌then◌else◌, Option, Some, None}
-use Rattle.f2_format.specs.Geometry.{Extent, node_third, data_third, nid_limit}
+use Rattle.f2_format.specs.Geometry.{ImageGeometry, node_third, data_third, nid_limit}
 use Rattle.f2_model.specs.Tree.{Rows, root_alone}
 use Rattle.f2_model.specs.State.{State, Meaning, initial}
 use Rattle.f2_model.specs.Step.{Faults, HasRisen, is_up}
@@ -109,15 +109,15 @@ PlaysLines limits from (line ∷ lines) [] to = ⊥
 PlaysLines limits from (line ∷ lines) (part ∷ parts) to = PlaysLine limits from line part × PlaysLines limits part.after lines parts to
 
 -- what an image of these sizes grants, where a file may have so many bytes
-abbrev pub granted : ℕ → Extent → Limits
-granted size extent = record { nodes = node_third extent; data_blocks = data_third extent; nids = nid_limit extent; size = size }
+abbrev pub granted : ℕ → ImageGeometry → Limits
+granted size geom = record { nodes = node_third geom; data_blocks = data_third geom; nids = nid_limit geom; size = size }
 
 -- what a new image stands for: the root alone, by the first checkpoint, of the newer format
 abbrev pub new_image : Meaning
 new_image = record { base = root_alone; marks = []; format = Two; version = 1 }
 
 -- what a `mkfs` line comes to: a new image of these sizes is mounted, with its checkpoint
-pub record PlaysMkfs (limits : Limits) (extent : Extent) (part : Part) : Type 0 where
+pub record PlaysMkfs (limits : Limits) (geom : ImageGeometry) (part : Part) : Type 0 where
   pub happened : Happened limits part.faults (initial new_image) part.events part.after
   pub mounted : Mounts 0 reply.Synced part.events
-  pub said : part.text ≡ ended (made_spelling (node_third extent) (data_third extent))
+  pub said : part.text ≡ ended (made_spelling (node_third geom) (data_third geom))

@@ -1,6 +1,6 @@
 -- What is printed of the bytes of a script, by the status that the run ends with.
 use Rattle.std.specs.Prelude.{◌≡◌, ◌⊎◌, ℕ, List, [], ◌∷◌, ◌++◌, Ok, Err}
-use Rattle.f2_format.specs.Geometry.{Extent}
+use Rattle.f2_format.specs.Geometry.{ImageGeometry}
 use Rattle.f2_layout.specs.Refusal.{geometry_of}
 use Rattle.f2_layout.specs.declared.geometry.Limit.{Limit}
 use Rattle.f2_model.specs.State.{State}
@@ -21,17 +21,17 @@ pub record Scope : Type 0 where
   pub size : ℕ
 
 -- the lines from a `mkfs` line on came to these parts, of which the first is that line's
-pub record PlaysImage (size : ℕ) (extent : Extent) (lines : List Line) (parts : List Part) : Type 0 where
-  pub sizes : geometry_of extent ≡ Ok extent
+pub record PlaysImage (size : ℕ) (geom : ImageGeometry) (lines : List Line) (parts : List Part) : Type 0 where
+  pub sizes : geometry_of geom ≡ Ok geom
   pub first : Part
   pub rest : List Part
   pub whole : parts ≡ first ∷ rest
   pub after : State
-  pub made : PlaysMkfs (granted size extent) extent first
-  pub played : PlaysLines (granted size extent) first.after lines rest after
+  pub made : PlaysMkfs (granted size geom) geom first
+  pub played : PlaysLines (granted size geom) first.after lines rest after
   -- the disk's count of faults before the `mkfs` line
   pub count : ℕ
-  pub counted : AreCounted (nothing_planned count) count (Mkfs extent.blocks extent.nat ∷ lines) parts
+  pub counted : AreCounted (nothing_planned count) count (Mkfs geom.blocks geom.nat ∷ lines) parts
 
 -- The lines of a script came to these parts. Before the `mkfs` line there are none but lines that say nothing, which come to
 -- no part.

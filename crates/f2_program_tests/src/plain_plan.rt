@@ -1,6 +1,6 @@
 //! Plans of small trees.
 ghost use Rattle.std.specs.Prelude.{◌≡◌, ◌∷◌, [], IfOk};
-ghost use Rattle.f2_format.specs.Geometry.{Extent, IsGeometry};
+ghost use Rattle.f2_format.specs.Geometry.{ImageGeometry, IsGeometry};
 ghost use Rattle.f2_laid.specs.Laid.{IsKept, IsStorable, root_row};
 
 use f2_disk::Block;
@@ -45,7 +45,7 @@ fn file(alloc: Global, ino: u32, name: u8, size: u64, pages: Pages) -> Result<Ro
 
 /// The root alone.
 fn alone(alloc: Global) -> Result<Tree, AllocError>
-    ensures { IfOk result (λ tree. (extent : Extent) → IsGeometry extent → IsStorable extent tree) }
+    ensures { IfOk result (λ tree. (geom : ImageGeometry) → IsGeometry geom → IsStorable geom tree) }
 {
     let mut tree = Tree::new(alloc);
     tree.put(root(alloc))?;
@@ -54,7 +54,7 @@ fn alone(alloc: Global) -> Result<Tree, AllocError>
 
 /// The root with a file `b` of one page and a file `a` without.
 fn two(alloc: Global, block: &Block) -> Result<Tree, AllocError>
-    ensures { IfOk result (λ tree. (extent : Extent) → IsGeometry extent → IsStorable extent tree) }
+    ensures { IfOk result (λ tree. (geom : ImageGeometry) → IsGeometry geom → IsStorable geom tree) }
 {
     let mut pages = Pages::new(alloc);
     pages.put(0, block)?;
@@ -93,7 +93,7 @@ fn second(geometry: Geometry) -> Next
 
 /// No place.
 fn nothing(alloc: Global) -> Places
-    ensures { (extent : Extent) → IsKept extent result }
+    ensures { (geom : ImageGeometry) → IsKept geom result }
 {
     Places::new(alloc)
 }

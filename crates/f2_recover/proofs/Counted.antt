@@ -71,7 +71,7 @@ members (suc n) s most =
       all = (one.1, all_in s one.0 others.list others.all);
     }
 
-module _ (image : Image) (point : Checkpoint) (inos : Numbers) (ino offset page : ℕ) (taken : Taken) (are : AreTaken image point inos ino offset page taken) where
+module _ (image : Image) (ckpt : Checkpoint) (inos : Numbers) (ino offset page : ℕ) (taken : Taken) (are : AreTaken image ckpt inos ino offset page taken) where
   abbrev Held : List ℕ → Type 0
   Held list = AllByRecursion (λ k. set.contains taken.nodes k ≡ true) list
 
@@ -88,15 +88,15 @@ module _ (image : Image) (point : Checkpoint) (inos : Numbers) (ino offset page 
   apart k q h i other same =
       let a = are.nodes k h in
       let b = are.nodes q i in
-      let is : IsNode image point b.other b.more a.nid = subst (λ (p : ℕ × ℕ). IsNode image point p.0 p.1 a.nid) same a.is in
-      other (sym a.address ∙ ap (node_address image point) (one_nid image point b.other b.more a.nid b.nid is b.is) ∙ b.address)
+      let is : IsNode image ckpt b.other b.more a.nid = subst (λ (p : ℕ × ℕ). IsNode image ckpt p.0 p.1 a.nid) same a.is in
+      other (sym a.address ∙ ap (node_address image ckpt) (one_nid image ckpt b.other b.more a.nid b.nid is b.is) ∙ b.address)
 
   long : (list : List ℕ) (held : Held list) → length (pairs list held) ≡ length list
   unfolding pairs
   long [] held = refl
   long (k ∷ list) held = ap suc (long list held.1)
 
-  some : (list : List ℕ) (held : Held list) → AllByRecursion (IsSomeNode image point) (pairs list held)
+  some : (list : List ℕ) (held : Held list) → AllByRecursion (IsSomeNode image ckpt) (pairs list held)
   unfolding pairs pair_at
   some [] held = tt
   some (k ∷ list) held = (((are.nodes k held.0).nid, (are.nodes k held.0).is), some list held.1)
@@ -111,16 +111,16 @@ module _ (image : Image) (point : Checkpoint) (inos : Numbers) (ino offset page 
   differ [] held apart_all = tt
   differ (k ∷ list) held apart_all = (head_differs k held.0 list held.1 apart_all.0, differ list held.1 apart_all.1)
 
-  pub too_many_nodes : (limit : ℕ) → limit ≡ node_third point.extent → limit < set.len taken.nodes → IsTooFull image point limit
+  pub too_many_nodes : (limit : ℕ) → limit ≡ node_third ckpt.geom → limit < set.len taken.nodes → IsTooFull image ckpt limit
   too_many_nodes limit is more =
       let m = members (set.len taken.nodes) taken.nodes (omega arith) in
       faults.base_nodes is (record { some = pairs m.list m.all; differ = differ m.list m.all m.differ; all = some m.list m.all; more = omega (arith, more, long m.list m.all, m.long) })
 
-  blocks : (list : List ℕ) → AllByRecursion (λ k. set.contains taken.pages k ≡ true) list → AllByRecursion (IsBaseBlock image point) list
+  blocks : (list : List ℕ) → AllByRecursion (λ k. set.contains taken.pages k ≡ true) list → AllByRecursion (IsBaseBlock image ckpt) list
   blocks [] held = tt
   blocks (k ∷ list) held = (((are.pages k held.0).other, (are.pages k held.0).more, (are.pages k held.0).is), blocks list held.1)
 
-  pub too_many_pages : (limit : ℕ) → limit ≡ data_third point.extent → limit < set.len taken.pages → IsTooFull image point limit
+  pub too_many_pages : (limit : ℕ) → limit ≡ data_third ckpt.geom → limit < set.len taken.pages → IsTooFull image ckpt limit
   too_many_pages limit is more =
       let m = members (set.len taken.pages) taken.pages (omega arith) in
       faults.base_blocks is (record { some = m.list; differ = m.differ; all = blocks m.list m.all; more = omega (arith, more, m.long) })

@@ -34,17 +34,17 @@ types Regular = refl
 types Directory = refl
 
 -- what stands below the root is reached
-pub below_reached : (image : Image) (point : Checkpoint) (depth ino : ℕ) → IsBelow image point depth ino → IsReached image point ino
-below_reached image point _ _ top = root
-below_reached image point _ _ (deeper depth directory dentry up has) = below directory dentry (below_reached image point depth directory up) has
+pub below_reached : (image : Image) (ckpt : Checkpoint) (depth ino : ℕ) → IsBelow image ckpt depth ino → IsReached image ckpt ino
+below_reached image ckpt _ _ top = root
+below_reached image ckpt _ _ (deeper depth directory dentry up has) = below directory dentry (below_reached image ckpt depth directory up) has
 
-module _ (image : Image) (point : Checkpoint) (done : Numbers) (directory : ℕ) (places : List (ℕ × ℕ)) (dents : List Dent) (count : ℕ) (dent : Dent)
-    (not_done : set.contains done directory ≡ false) (at : AreDentsAt image point directory places dents) (small : count < length dents) (is : slice_index_or dents count no_dent ≡ dent) where
+module _ (image : Image) (ckpt : Checkpoint) (done : Numbers) (directory : ℕ) (places : List (ℕ × ℕ)) (dents : List Dent) (count : ℕ) (dent : Dent)
+    (not_done : set.contains done directory ≡ false) (at : AreDentsAt image ckpt directory places dents) (small : count < length dents) (is : slice_index_or dents count no_dent ≡ dent) where
   abbrev pub place : ℕ × ℕ
   place = slice_index_or places count (0, 0)
 
-  pub has : HasDentryAt image point directory place.0 place.1 (dentry_of dent)
-  has = subst (λ (d : Dent). HasDentryAt image point directory place.0 place.1 (dentry_of d)) is (at.there count small)
+  pub has : HasDentryAt image ckpt directory place.0 place.1 (dentry_of dent)
+  has = subst (λ (d : Dent). HasDentryAt image ckpt directory place.0 place.1 (dentry_of d)) is (at.there count small)
 
   -- its place is none of those
   other_place : (of page slot : ℕ) → IsPassed done directory places count of page slot → (of ≢ directory) ⊎ (page ≢ place.0) ⊎ (slot ≢ place.1)
@@ -52,24 +52,24 @@ module _ (image : Image) (point : Checkpoint) (done : Numbers) (directory : ℕ)
   other_place of page slot (inr first) =
       inr (pages_or_slots (page, slot) place (λ same. let one : first.1.0 ≡ count = at.apart first.1.0 count (omega (arith, first.1.1.0, small)) small (first.1.1.1 ∙ same) in omega (arith, one, first.1.1.0)))
 
-  module _ (reached : IsReached image point directory) where
+  module _ (reached : IsReached image ckpt directory) where
     -- the file that it names
-    pub names_reached : IsReached image point dent.ino
+    pub names_reached : IsReached image ckpt dent.ino
     names_reached = below directory (dentry_of dent) reached (place.0, place.1, has)
 
-    pub names_below : (depth : ℕ) → 1 ≤ depth → IsBelow image point (depth - 1) directory → IsBelow image point depth dent.ino
-    names_below depth some up = subst (λ n. IsBelow image point n dent.ino) (omega (arith, some)) (deeper (depth - 1) directory (dentry_of dent) up (place.0, place.1, has))
+    pub names_below : (depth : ℕ) → 1 ≤ depth → IsBelow image ckpt (depth - 1) directory → IsBelow image ckpt depth dent.ino
+    names_below depth some up = subst (λ n. IsBelow image ckpt n dent.ino) (omega (arith, some)) (deeper (depth - 1) directory (dentry_of dent) up (place.0, place.1, has))
 
-    pub names_as : IsNamedAs image point dent.ino dent.kind
+    pub names_as : IsNamedAs image ckpt dent.ino dent.kind
     names_as = record { directory = directory; dentry = dentry_of dent; reached = reached; has = (place.0, place.1, has); is = refl; typed = types dent.kind }
 
     -- the directory of a place that was passed
-    passed_reached : (walk : Walk) → IsWalkedTo image point done directory places count walk → (of page slot : ℕ) → IsPassed done directory places count of page slot → IsReached image point of
+    passed_reached : (walk : Walk) → IsWalkedTo image ckpt done directory places count walk → (of page slot : ℕ) → IsPassed done directory places count of page slot → IsReached image ckpt of
     passed_reached walk to of page slot (inl walked) = let row = (to.walked of walked).row in (to.rows of row.row row.there).file.reached
-    passed_reached walk to of page slot (inr first) = subst (IsReached image point) (sym first.0) reached
+    passed_reached walk to of page slot (inr first) = subst (IsReached image ckpt) (sym first.0) reached
 
     -- an ino that has a row is named twice
-    pub ino_twice : (walk : Walk) → IsWalkedTo image point done directory places count walk → 4 ≤ dent.ino → map.contains_key walk.rows dent.ino ≡ true → IsBadTree image point dent.ino
+    pub ino_twice : (walk : Walk) → IsWalkedTo image ckpt done directory places count walk → 4 ≤ dent.ino → map.contains_key walk.rows dent.ino ≡ true → IsBadTree image ckpt dent.ino
     ino_twice walk to least there =
         let row = some_there (map.get walk.rows dent.ino) there in
         let by = to.bound dent.ino row.0 row.1 (λ same. omega (arith, least, same)) in
@@ -77,7 +77,7 @@ module _ (image : Image) (point : Checkpoint) (done : Numbers) (directory : ℕ)
         (other_place row.0.parent by.page by.slot by.passed) by.own refl
 
     -- a name that is bound stands there twice
-    pub name_twice : (names : Entries) → AreFirstNames dents count names → is_some (map.get names dent.name) ≡ true → IsBadTree image point dent.ino
+    pub name_twice : (names : Entries) → AreFirstNames dents count names → is_some (map.get names dent.name) ≡ true → IsBadTree image ckpt dent.ino
     name_twice names first there =
         let bound = some_there (map.get names dent.name) there in
         let by = first.only dent.name bound.0.0 bound.0.1 bound.1 in

@@ -44,10 +44,10 @@ next_dent front rest dent dents whole = (
   ap (λ (xs : List Dent). slice_index_or xs (length front) no_dent) (sym whole) ∙ get_or-append_seam front dent rest no_dent,
 )
 
-module _ (image : Image) (point : Checkpoint) (done : Numbers) (directory : ℕ) (places : List (ℕ × ℕ)) (dents : List Dent) (walk : Walk) (names : Entries) where
+module _ (image : Image) (ckpt : Checkpoint) (done : Numbers) (directory : ℕ) (places : List (ℕ × ℕ)) (dents : List Dent) (walk : Walk) (names : Entries) where
   -- so many dents were taken
   abbrev pub Took : ℕ → Type 0
-  Took count = IsWalkedTo image point done directory places count walk × AreFirstNames dents count names
+  Took count = IsWalkedTo image ckpt done directory places count walk × AreFirstNames dents count names
 
   pub took_more : (front : List Dent) (dent : Dent) → Took (length front + 1) → Took (length (front ++ dent ∷ []))
   took_more front dent took = subst Took (sym (length_push front dent)) took

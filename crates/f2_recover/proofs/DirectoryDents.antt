@@ -44,17 +44,17 @@ pub dentries_all : (image : Image) (blocks : List PageAt) (place : ℕ) (dents :
 dentries_all image blocks place dents last are = subst (λ (list : List PageAt). AreDentriesOf image list dents) (take_all place blocks last) are
 
 -- a block that is listed is one of its directory
-pub listed_block : (image : Image) (point : Checkpoint) (directory : ℕ) (blocks : List PageAt) (place : ℕ) → AreBlocksOf image point directory blocks → place < length blocks
-    → IsDirectoryBlock image point directory (slice_index_or blocks place no_page).page (slice_index_or blocks place no_page).at
-listed_block image point directory blocks place are small = are.only (slice_index_or blocks place no_page) (Contains-get_or blocks place no_page small)
+pub listed_block : (image : Image) (ckpt : Checkpoint) (directory : ℕ) (blocks : List PageAt) (place : ℕ) → AreBlocksOf image ckpt directory blocks → place < length blocks
+    → IsDirectoryBlock image ckpt directory (slice_index_or blocks place no_page).page (slice_index_or blocks place no_page).at
+listed_block image ckpt directory blocks place are small = are.only (slice_index_or blocks place no_page) (Contains-get_or blocks place no_page small)
 
 -- all that are read of a block are dentries of its directory
-pub found_are : (image : Image) (point : Checkpoint) (directory page at : ℕ) (found : List Dent) → IsDirectoryBlock image point directory page at → map dentry_of found ≡ dentries_of (block_at image at)
-    → All (λ dent. HasDentry image point directory (dentry_of dent)) found
-found_are image point directory page at found is content place d small =
+pub found_are : (image : Image) (ckpt : Checkpoint) (directory page at : ℕ) (found : List Dent) → IsDirectoryBlock image ckpt directory page at → map dentry_of found ≡ dentries_of (block_at image at)
+    → All (λ dent. HasDentry image ckpt directory (dentry_of dent)) found
+found_are image ckpt directory page at found is content place d small =
     let in_block : place < length (dentries_of (block_at image at)) = subst (λ ds. place < length ds) content (subst (λ n. place < n) (sym (length-map found dentry_of)) small) in
-    subst (HasDentry image point directory) (ap (λ (ds : List Dentry). get_or ds place (dentry_of d)) (sym content) ∙ get_or-map dentry_of found place d (dentry_of d) small)
-    (has_dentry image point directory page at is place (dentry_of d) in_block)
+    subst (HasDentry image ckpt directory) (ap (λ (ds : List Dentry). get_or ds place (dentry_of d)) (sym content) ∙ get_or-map dentry_of found place d (dentry_of d) small)
+    (has_dentry image ckpt directory page at is place (dentry_of d) in_block)
 
 abbrev begun : List ℕ → List ℕ
 begun block = filter (begins_name block) all_slots
@@ -148,20 +148,20 @@ module _ (image : Image) (blocks : List PageAt) where
     count : length placed ≡ length dents
     count = sym (length-map placed (dentry_there image)) ∙ ap length (sym dents_are) ∙ length-map dents dentry_of
 
-    module _ (point : Checkpoint) (directory : ℕ) (are : AreBlocksOf image point directory blocks) where
-      there : (k : ℕ) → k < length dents → HasDentryAt image point directory (slice_index_or places k (0, 0)).0 (slice_index_or places k (0, 0)).1 (dentry_of (slice_index_or dents k no_dent))
+    module _ (ckpt : Checkpoint) (directory : ℕ) (are : AreBlocksOf image ckpt directory blocks) where
+      there : (k : ℕ) → k < length dents → HasDentryAt image ckpt directory (slice_index_or places k (0, 0)).0 (slice_index_or places k (0, 0)).1 (dentry_of (slice_index_or dents k no_dent))
       there k small =
           let in_placed : k < length placed = subst (λ n. k < n) (sym count) small in
           let p : Placed = get_or placed k nowhere in
           let is : IsPlaced p = is_placed p (Contains-get_or placed k nowhere in_placed) in
-          let has : HasDentryAt image point directory p.0.page p.1 (dentry_there image p) = record { at = p.0.at; block = are.only p.0 is.listed; within = is.within; begins = is.begins; is = refl } in
+          let has : HasDentryAt image ckpt directory p.0.page p.1 (dentry_there image p) = record { at = p.0.at; block = are.only p.0 is.listed; within = is.within; begins = is.begins; is = refl } in
           let e : Dentry = dentry_of no_dent in
           let dentry : dentry_there image p ≡ dentry_of (slice_index_or dents k no_dent)
           = sym (get_or-map (dentry_there image) placed k nowhere e in_placed) ∙ ap (λ (ds : List Dentry). get_or ds k e) (sym dents_are) ∙ get_or-map dentry_of dents k no_dent e small in
-          subst (λ (q : ℕ × ℕ). HasDentryAt image point directory q.0 q.1 (dentry_of (slice_index_or dents k no_dent))) (sym (get_or-map place_of placed k nowhere (0, 0) in_placed))
-          (subst (HasDentryAt image point directory p.0.page p.1) dentry has)
+          subst (λ (q : ℕ × ℕ). HasDentryAt image ckpt directory q.0 q.1 (dentry_of (slice_index_or dents k no_dent))) (sym (get_or-map place_of placed k nowhere (0, 0) in_placed))
+          (subst (HasDentryAt image ckpt directory p.0.page p.1) dentry has)
 
-      all : (page slot : ℕ) (dentry : Dentry) → HasDentryAt image point directory page slot dentry → (k : ℕ) × ((k < length dents) × (slice_index_or places k (0, 0) ≡ (page, slot)))
+      all : (page slot : ℕ) (dentry : Dentry) → HasDentryAt image ckpt directory page slot dentry → (k : ℕ) × ((k < length dents) × (slice_index_or places k (0, 0) ≡ (page, slot)))
       all page slot dentry has =
           let x : PageAt = record { page = page; at = has.at } in
           let found : Contains placed (x, slot) = has_place x slot (are.all page has.at has.block) has.within has.begins in
@@ -190,7 +190,7 @@ module _ (image : Image) (blocks : List PageAt) where
           by (inr other) (inr high) = absurd (differ k j (omega (arith, high, other)) first (sym same))
 
       -- what is read of all blocks of a directory are its dents
-      pub dents_of_blocks : AreDents image point directory dents
+      pub dents_of_blocks : AreDents image ckpt directory dents
       dents_of_blocks = (
         places,
         record {

@@ -55,27 +55,27 @@ not_past image size page at last_at last (inr lower) within zeros (faults.partly
 not_past image size page at last_at last (inl e) within zeros (faults.partly place small past other) =
     other (ap (λ n. slice_index (block_at image n) place) e.1 ∙ zeros place small (subst (λ n. size ≤ n * 4096 + place) e.0 past))
 
-module _ (image : Image) (point : Checkpoint) (inos : set.FinSet nat_cmp) (ino : ℕ) (taken : Taken) (file : File) (is : IsFileRead image point inos ino taken file) where
+module _ (image : Image) (ckpt : Checkpoint) (inos : set.FinSet nat_cmp) (ino : ℕ) (taken : Taken) (file : File) (is : IsFileRead image ckpt inos ino taken file) where
   pub ends_well : (last : PageAt) → last ≡ slice_index_or file.nodes.list.items (length file.nodes.list.items - 1) no_page → last.page * 4096 < file.size
       → ((place : ℕ) → place < 4096 → file.size ≤ last.page * 4096 + place → slice_index (block_at image last.at) place ≡ 0)
-      → (page at : ℕ) → IsBasePage image point ino page at → IsPastSize image file.size page at → ⊥
+      → (page at : ℕ) → IsBasePage image ckpt ino page at → IsPastSize image file.size page at → ⊥
   ends_well last last_is within zeros page at base =
       not_past image file.size page at 0 last
       (at_most_last _ file.nodes.pages.pages file.nodes.list.items last is.seen.part.listed last_is page at (is.seen.part.all_pages page at base base.within)) within zeros
 
-  pub no_pages : length file.nodes.list.items ≡ 0 → (page at : ℕ) → IsBasePage image point ino page at → ⊥
+  pub no_pages : length file.nodes.list.items ≡ 0 → (page at : ℕ) → IsBasePage image ckpt ino page at → ⊥
   no_pages none page at base =
       let has = is.seen.part.listed.all page at (is.seen.part.all_pages page at base base.within) in
       let small = has.1 in
       omega (arith, none, small)
 
   -- the last page is one of the base
-  pub last_base : (last : PageAt) → length file.nodes.list.items ≢ 0 → last ≡ slice_index_or file.nodes.list.items (length file.nodes.list.items - 1) no_page → IsBasePage image point ino last.page last.at
+  pub last_base : (last : PageAt) → length file.nodes.list.items ≢ 0 → last ≡ slice_index_or file.nodes.list.items (length file.nodes.list.items - 1) no_page → IsBasePage image ckpt ino last.page last.at
   last_base last some last_is =
       let at_end : length file.nodes.list.items - 1 < length file.nodes.list.items = omega (arith, some) in
       let there = is.seen.part.listed.only last (length file.nodes.list.items - 1, at_end, get_or_default file.nodes.list.items (length file.nodes.list.items - 1) last no_page at_end ∙ sym last_is) in
       (is.seen.part.pages last.page last.at there).is
 
-  pub past_size : (last : PageAt) → HasTable point → file.kind ≡ Regular → IsBasePage image point ino last.page last.at → IsPastSize image file.size last.page last.at → HasTable point × IsBadTree image point ino
+  pub past_size : (last : PageAt) → HasTable ckpt → file.kind ≡ Regular → IsBasePage image ckpt ino last.page last.at → IsPastSize image file.size last.page last.at → HasTable ckpt × IsBadTree image ckpt ino
   past_size last has regular base past =
-      (has, faults.past_size last.page last.at is.inode is.reached (subst (λ k. IsInode image point ino k is.inode) regular is.is) base (subst (λ s. IsPastSize image s last.page last.at) is.size past))
+      (has, faults.past_size last.page last.at is.inode is.reached (subst (λ k. IsInode image ckpt ino k is.inode) regular is.is) base (subst (λ s. IsPastSize image s last.page last.at) is.size past))

@@ -3,7 +3,7 @@ use Rattle.std.proofs.Common.{◌≡◌, ◌≢◌, ◌⊎◌, inl, inr, ℕ, ze
 use Rattle.std.specs.Prelude.{Some, Contains, slice_index_or}
 use Rattle.std.specs.FinMap as map
 use Rattle.std.specs.FinSet as set
-use Rattle.f2_format.specs.Geometry.{Extent, nid_limit}
+use Rattle.f2_format.specs.Geometry.{ImageGeometry, nid_limit}
 use Rattle.f2_model.specs.Tree.{ROOT}
 use Rattle.f2_model.specs.declared.rows.Kind.TheVariants.{Regular, Directory}
 use Rattle.f2_dir.specs.Entries.{Entries}
@@ -41,18 +41,18 @@ only_row k row rows is q other there = by (put_cases no_rows k row q other (sym 
 pub row_there : (k : ℕ) (row : BaseRow) (rows : BaseRows) → rows ≡ map.insert no_rows k row → map.get rows k ≡ Some row
 row_there k row rows is = ap (λ (m : BaseRows). map.get m k) is ∙ get_put no_rows k row
 
-module _ (image : Image) (point : Checkpoint) (walk : Walk) (row : BaseRow) (read : IsFileRead image point set.empty ROOT walk.zones row.file) (directory : row.file.kind ≡ Directory)
+module _ (image : Image) (ckpt : Checkpoint) (walk : Walk) (row : BaseRow) (read : IsFileRead image ckpt set.empty ROOT walk.zones row.file) (directory : row.file.kind ≡ Directory)
     (parent : row.parent ≡ ROOT) (named : row.name ≡ []) (depth : row.depth ≡ 0) (rows : walk.rows ≡ map.insert no_rows ROOT row) (names : walk.names ≡ map.empty) where
   no_other : Directory ≡ Regular → ⊥
   no_other e = cc
 
-  root_file : IsFileOf image point ROOT row.file
+  root_file : IsFileOf image ckpt ROOT row.file
   root_file = record { reached = read.reached; inode = read.inode; is = read.is; own = read.own; size = read.size; part = read.seen.part }
 
-  root_row : IsRowOf image point ROOT row
+  root_row : IsRowOf image ckpt ROOT row
   root_row = record {
     file = root_file;
-    below = subst (λ n. faults.IsBelow image point n ROOT) (sym depth) faults.root;
+    below = subst (λ n. faults.IsBelow image ckpt n ROOT) (sym depth) faults.root;
     ends = λ regular page at is. absurd (no_other (sym directory ∙ regular));
   }
 
@@ -60,15 +60,15 @@ module _ (image : Image) (point : Checkpoint) (walk : Walk) (row : BaseRow) (rea
   inos_are ino = keys_more no_rows ROOT row no_inos (λ q. no_keys BaseRow q) ino ∙ ap (λ (m : BaseRows). map.contains_key m ino) (sym rows)
 
   -- the walk is that of the root alone
-  pub walked_first : IsWalkedTo image point set.empty 0 [] 0 walk
+  pub walked_first : IsWalkedTo image ckpt set.empty 0 [] 0 walk
   walked_first = record {
     taken = record {
       inos = set.insert no_inos ROOT;
       are_rows = inos_are;
-      next = λ ino fresh. next_file image point set.empty ROOT ino walk.zones read.seen.are (inos_are ino ∙ fresh);
+      next = λ ino fresh. next_file image ckpt set.empty ROOT ino walk.zones read.seen.are (inos_are ino ∙ fresh);
     };
     rows = λ ino other there. let is = only_row ROOT row walk.rows rows ino other there in
-        subst (λ n. IsRowOf image point n other) (sym is.0) (subst (IsRowOf image point ROOT) (sym is.1) root_row);
+        subst (λ n. IsRowOf image ckpt n other) (sym is.0) (subst (IsRowOf image ckpt ROOT) (sym is.1) root_row);
     root = record { row = row; there = row_there ROOT row walk.rows rows; is = record { kind = directory; parent = parent; named = named } };
     bound = λ ino other there some. absurd (some (only_row ROOT row walk.rows rows ino other there).0);
     found = λ of page slot dentry has passed. absurd (none_passed of page slot passed);
@@ -78,8 +78,8 @@ module _ (image : Image) (point : Checkpoint) (walk : Walk) (row : BaseRow) (rea
   }
 
 -- the queue is the root alone
-pub queue_first : (extent : Extent) (row : BaseRow) (rows : BaseRows) (order : List ℕ) → rows ≡ map.insert no_rows ROOT row → row.depth ≡ 0 → order ≡ ROOT ∷ [] → ROOT < nid_limit extent → IsQueue extent rows order
-queue_first extent row rows order are depth is within = subst (IsQueue extent rows) (sym is) (record {
+pub queue_first : (geom : ImageGeometry) (row : BaseRow) (rows : BaseRows) (order : List ℕ) → rows ≡ map.insert no_rows ROOT row → row.depth ≡ 0 → order ≡ ROOT ∷ [] → ROOT < nid_limit geom → IsQueue geom rows order
+queue_first geom row rows order are depth is within = subst (IsQueue geom rows) (sym is) (record {
   there = λ k small. record { row = row; there = ap (map.get rows) (at k small) ∙ row_there ROOT row rows are; is = omega (arith, depth) };
   within = λ k small. let e = at k small in omega (arith, e, within);
   apart = λ j k less small same. let one : length (ROOT ∷ []) ≡ 1 = refl in omega (arith, less, small, one);

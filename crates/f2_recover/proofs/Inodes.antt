@@ -69,21 +69,21 @@ ours block read h = ours_of (known_kind (inode_of block).mode) block read refl h
 abbrev Map : Type 0
 Map = map.FinMap nat_cmp ℕ
 
-module _ (image : Image) (point : Checkpoint) where
-  pub file_of : (ino : ℕ) (block : List ℕ) (read : Inode) → IsReached image point ino → node image point ino ≡ Some block → IsOurs block read → IsFile image point ino block
+module _ (image : Image) (ckpt : Checkpoint) where
+  pub file_of : (ino : ℕ) (block : List ℕ) (read : Inode) → IsReached image ckpt ino → node image ckpt ino ≡ Some block → IsOurs block read → IsFile image ckpt ino block
   file_of ino block read reached there is = record { reached = reached; kind = read.kind; is = record { there = there; is_kind = is.kind } }
 
-  pub inode_odd : (ino at : ℕ) (block : List ℕ) → HasTable point → IsReached image point ino → node image point ino ≡ Some block → node_address image point ino ≡ at → IsForeign block → IsBadInode image point at
+  pub inode_odd : (ino at : ℕ) (block : List ℕ) → HasTable ckpt → IsReached image ckpt ino → node image ckpt ino ≡ Some block → node_address image ckpt ino ≡ at → IsForeign block → IsBadInode image ckpt at
   inode_odd ino at block has reached there address odd = faults.in_base has ino block reached there address odd
 
   -- nothing was read of a file
-  pub seen_none : (inos : Numbers) (ino : ℕ) (taken : Taken) (file : FileNodes) → AreTaken image point inos ino 0 0 taken → file.nids ≡ map.empty → file.addresses ≡ map.empty → file.pages.pages ≡ map.empty → file.list.items ≡ [] → IsSeen image point inos ino 0 0 taken file
+  pub seen_none : (inos : Numbers) (ino : ℕ) (taken : Taken) (file : FileNodes) → AreTaken image ckpt inos ino 0 0 taken → file.nids ≡ map.empty → file.addresses ≡ map.empty → file.pages.pages ≡ map.empty → file.list.items ≡ [] → IsSeen image ckpt inos ino 0 0 taken file
   seen_none inos ino taken file are nids addresses pages list = record {
     are = are;
     part = record {
       nodes = λ o nid there. absurd (none o nid (sym (ap (λ (m : Map). map.get m o) nids) ∙ there));
       all_nodes = λ o nid is within. absurd (omega (arith, within));
-      addresses = λ o. ap (λ (m : Map). map.get m o) addresses ∙ map.get-empty nat_cmp o ∙ ap (option_map (node_address image point)) (sym (ap (λ (m : Map). map.get m o) nids ∙ map.get-empty nat_cmp o));
+      addresses = λ o. ap (λ (m : Map). map.get m o) addresses ∙ map.get-empty nat_cmp o ∙ ap (option_map (node_address image ckpt)) (sym (ap (λ (m : Map). map.get m o) nids ∙ map.get-empty nat_cmp o));
       pages = λ p at there. absurd (none p at (sym (ap (λ (m : Map). map.get m p) pages) ∙ there));
       all_pages = λ p at is within. absurd (omega (arith, within));
       listed = list_none 0 file.pages.pages file.list.items (λ p at there. none p at (sym (ap (λ (m : Map). map.get m p) pages) ∙ there)) list;

@@ -5,7 +5,7 @@ use Rattle.std.specs.List.{count_by, range_with_len}
 use Rattle.std.proofs.lemmas.Bool.{eqb-true}
 use Rattle.std.proofs.lemmas.List.{get_or_default}
 use Rattle.std.proofs.lemmas.List.Sums.{sum_by-cons}
-use Rattle.f2_format.specs.Geometry.{Extent, nid_limit}
+use Rattle.f2_format.specs.Geometry.{ImageGeometry, nid_limit}
 use Rattle.f2_format.specs.Journal.{journal_of, journal_count, journal_entry}
 use Rattle.f2_format.specs.Nat.{NodePlace}
 use Rattle.f2_image.specs.Packs.{Checkpoint, journal}
@@ -41,18 +41,18 @@ there_counted (one ∷ nids) (suc k) small =
     let rest = there_counted nids k (omega (arith, small)) in
     subst (λ n. 1 ≤ n) (sym (sum_by-cons (λ (x : ℕ). cond (x == get_or nids k 0) 1 0) one nids)) (omega (arith, rest))
 
-module _ (point : Checkpoint) (extent : Extent) (block nids : List ℕ) (sizes : point.extent ≡ extent) (summary : point.summary ≡ block) (are : nids ≡ map (λ place. (journal_entry block place).0) (range_with_len 0 (journal_count block))) where
-  count_is : (nid : ℕ) → count_by (λ entry. entry.0 == nid) (journal point) ≡ count_by (λ one. one == nid) nids
+module _ (ckpt : Checkpoint) (geom : ImageGeometry) (block nids : List ℕ) (sizes : ckpt.geom ≡ geom) (summary : ckpt.summary ≡ block) (are : nids ≡ map (λ place. (journal_entry block place).0) (range_with_len 0 (journal_count block))) where
+  count_is : (nid : ℕ) → count_by (λ entry. entry.0 == nid) (journal ckpt) ≡ count_by (λ one. one == nid) nids
   count_is nid =
       ap (λ (b : List ℕ). count_by (λ entry. entry.0 == nid) (journal_of b)) summary ∙ counts block nid (range_with_len 0 (journal_count block)) ∙ ap (count_by (λ one. one == nid)) (sym are)
 
-  pub twice_bad : (nid : ℕ) → 2 ≤ count_by (λ one. one == nid) nids → IsBadEntry point nid
+  pub twice_bad : (nid : ℕ) → 2 ≤ count_by (λ one. one == nid) nids → IsBadEntry ckpt nid
   twice_bad nid more = faults.twice (subst (λ n. 2 ≤ n) (sym (count_is nid)) more)
 
-  pub past_bad : (nid : ℕ) → 1 ≤ count_by (λ one. one == nid) nids → nid_limit extent ≤ nid → IsBadEntry point nid
-  past_bad nid some past = faults.past (subst (λ n. 1 ≤ n) (sym (count_is nid)) some) (subst (λ (e : Extent). nid_limit e ≤ nid) (sym sizes) past)
+  pub past_bad : (nid : ℕ) → 1 ≤ count_by (λ one. one == nid) nids → nid_limit geom ≤ nid → IsBadEntry ckpt nid
+  past_bad nid some past = faults.past (subst (λ n. 1 ≤ n) (sym (count_is nid)) some) (subst (λ (e : ImageGeometry). nid_limit e ≤ nid) (sym sizes) past)
 
-  pub none_bad : ((k : ℕ) → k < length nids → (get_or nids k 0 < nid_limit extent) × (count_by (λ one. one == get_or nids k 0) nids ≤ 1)) → (nid : ℕ) → IsBadEntry point nid → ⊥
+  pub none_bad : ((k : ℕ) → k < length nids → (get_or nids k 0 < nid_limit geom) × (count_by (λ one. one == get_or nids k 0) nids ≤ 1)) → (nid : ℕ) → IsBadEntry ckpt nid → ⊥
   none_bad each nid (faults.twice more) =
       let many = subst (λ n. 2 ≤ n) (count_is nid) more in
       let there = counted_there nids nid (omega (arith, many)) in
@@ -62,10 +62,10 @@ module _ (point : Checkpoint) (extent : Extent) (block nids : List ℕ) (sizes :
   none_bad each nid (faults.past some past) =
       let there = counted_there nids nid (subst (λ n. 1 ≤ n) (count_is nid) some) in
       let at : get_or nids there.0 0 ≡ nid = get_or_default nids there.0 0 nid there.1 ∙ there.2 in
-      let low = subst (λ n. n < nid_limit extent) at (each there.0 there.1).0 in
-      let high = subst (λ (e : Extent). nid_limit e ≤ nid) sizes past in
+      let low = subst (λ n. n < nid_limit geom) at (each there.0 there.1).0 in
+      let high = subst (λ (e : ImageGeometry). nid_limit e ≤ nid) sizes past in
       omega (arith, low, high)
 
-  pub entry_bad : (nid : ℕ) → (2 ≤ count_by (λ one. one == nid) nids) ⊎ ((1 ≤ count_by (λ one. one == nid) nids) × (nid_limit extent ≤ nid)) → IsBadEntry point nid
+  pub entry_bad : (nid : ℕ) → (2 ≤ count_by (λ one. one == nid) nids) ⊎ ((1 ≤ count_by (λ one. one == nid) nids) × (nid_limit geom ≤ nid)) → IsBadEntry ckpt nid
   entry_bad nid (inl more) = twice_bad nid more
   entry_bad nid (inr past) = past_bad nid past.0 past.1

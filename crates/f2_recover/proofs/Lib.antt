@@ -18,7 +18,7 @@ pub mod JournalNids
 pub mod NextFiles
 pub mod Counted
 pub mod Slots
-pub mod Points
+pub mod Checkpoints
 pub mod Walked
 pub mod ListPieces
 pub mod DirectoryDents

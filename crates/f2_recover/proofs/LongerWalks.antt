@@ -4,7 +4,7 @@ use Rattle.std.specs.Prelude.{Contains, Some}
 use Rattle.std.specs.FinMap as map
 use Rattle.std.proofs.lemmas.List.{get_or_append_left, get_or_push}
 use Rattle.std.proofs.lemmas.List.Elements.{Contains-append_left, Contains-push}
-use Rattle.f2_format.specs.Geometry.{Extent, nid_limit}
+use Rattle.f2_format.specs.Geometry.{ImageGeometry, nid_limit}
 use Rattle.f2_laws.proofs.Maps.{get_put}
 use Rattle.f2_laws.proofs.Places.{same_or_other}
 use Rattle.f2_laws.proofs.Walks.{some_none}
@@ -35,7 +35,7 @@ module _ (rows : BaseRows) (ino : ℕ) (free : map.contains_key rows ino ≡ fal
   has_row : (q : ℕ) (IsSo : BaseRow → Type 0) → HasRow rows q IsSo → HasRow (map.insert rows ino row) q IsSo
   has_row q IsSo has = record { row = has.row; there = put_stays rows ino row free q has.row has.there; is = has.is }
 
-  module _ (extent : Extent) (order : List ℕ) (queue : IsQueue extent rows order) (small : ino < nid_limit extent) (high : row.depth ≤ most_depth row.file.kind) where
+  module _ (geom : ImageGeometry) (order : List ℕ) (queue : IsQueue geom rows order) (small : ino < nid_limit geom) (high : row.depth ≤ most_depth row.file.kind) where
     abbrev IsHigh : BaseRow → Type 0
     IsHigh one = one.depth ≤ most_depth one.file.kind
 
@@ -43,9 +43,9 @@ module _ (rows : BaseRows) (ino : ℕ) (free : map.contains_key rows ino ≡ fal
     now k (inl old) = subst (λ q. HasRow (map.insert rows ino row) q IsHigh) (sym (before order ino k old)) (has_row (slice_index_or order k 0) IsHigh (queue.there k old))
     now k (inr end) = subst (λ q. HasRow (map.insert rows ino row) q IsHigh) (sym (last order ino k end)) (record { row = row; there = get_put rows ino row; is = high })
 
-    within : (k : ℕ) → (k < length order) ⊎ (k ≡ length order) → slice_index_or (order ++ ino ∷ []) k 0 < nid_limit extent
-    within k (inl old) = subst (λ q. q < nid_limit extent) (sym (before order ino k old)) (queue.within k old)
-    within k (inr end) = subst (λ q. q < nid_limit extent) (sym (last order ino k end)) small
+    within : (k : ℕ) → (k < length order) ⊎ (k ≡ length order) → slice_index_or (order ++ ino ∷ []) k 0 < nid_limit geom
+    within k (inl old) = subst (λ q. q < nid_limit geom) (sym (before order ino k old)) (queue.within k old)
+    within k (inr end) = subst (λ q. q < nid_limit geom) (sym (last order ino k end)) small
 
     fresh : (k : ℕ) → k < length order → slice_index_or order k 0 ≡ ino → ⊥
     fresh k old same = let has = queue.there k old in some_none (sym has.there ∙ ap (λ i. map.get rows i) same ∙ free_none (map.get rows ino) free)
@@ -60,7 +60,7 @@ module _ (rows : BaseRows) (ino : ℕ) (free : map.contains_key rows ino ≡ fal
     found q one (inl new) = subst (Contains (order ++ ino ∷ [])) (sym new.0) (Contains-push order ino)
     found q one (inr old) = Contains-append_left order (ino ∷ []) q (queue.all q one old)
 
-    more : IsQueue extent (map.insert rows ino row) (order ++ ino ∷ [])
+    more : IsQueue geom (map.insert rows ino row) (order ++ ino ∷ [])
     more = record {
       there = λ k small. now k (last_or_before order ino k small);
       within = λ k small. within k (last_or_before order ino k small);
@@ -68,9 +68,9 @@ module _ (rows : BaseRows) (ino : ℕ) (free : map.contains_key rows ino ≡ fal
       all = λ q one there. found q one (put_cases rows ino row q one there);
     }
 
-    pub queue_more : (after : BaseRows) (items : List ℕ) → after ≡ map.insert rows ino row → items ≡ order ++ ino ∷ [] → IsQueue extent after items
+    pub queue_more : (after : BaseRows) (items : List ℕ) → after ≡ map.insert rows ino row → items ≡ order ++ ino ∷ [] → IsQueue geom after items
     queue_more after items rows_are items_are =
-        subst (λ (m : BaseRows). IsQueue extent m items) (sym rows_are) (subst (λ (xs : List ℕ). IsQueue extent (map.insert rows ino row) xs) (sym items_are) more)
+        subst (λ (m : BaseRows). IsQueue geom m items) (sym rows_are) (subst (λ (xs : List ℕ). IsQueue geom (map.insert rows ino row) xs) (sym items_are) more)
 
 -- so it is longer
 pub longer_more : (old new : Walk) (ino : ℕ) (row : BaseRow) → map.contains_key old.rows ino ≡ false → new.rows ≡ map.insert old.rows ino row → new.order.items ≡ old.order.items ++ ino ∷ [] → IsLonger old new

@@ -20,13 +20,13 @@ up_within upper slot lower (second e small is) within = omega (arith, is, small)
 up_within upper slot lower (double e small is) within = omega (arith, is, small)
 up_within upper slot lower (low x e small is) within = omega (arith, e, is, small, within)
 
-module _ (image : Image) (point : Checkpoint) where
+module _ (image : Image) (ckpt : Checkpoint) where
   -- no node of a file has an offset at or past the limit
-  pub node_within : (ino offset nid : ℕ) → IsNode image point ino offset nid → offset < node_limit
+  pub node_within : (ino offset nid : ℕ) → IsNode image ckpt ino offset nid → offset < node_limit
   node_within _ _ _ (inode ino reached) = omega arith
   node_within _ _ _ (named ino offset nid slot lower block is there small below some) = up_within offset slot lower (up offset slot lower small below) (node_within ino offset nid is)
 
-  module _ (inos : Numbers) (ino next : ℕ) (taken : Taken) (are : AreTaken image point inos ino node_limit page_limit taken) (other_file : set.contains (set.insert inos ino) next ≡ false) where
+  module _ (inos : Numbers) (ino next : ℕ) (taken : Taken) (are : AreTaken image ckpt inos ino node_limit page_limit taken) (other_file : set.contains (set.insert inos ino) next ≡ false) where
     abbrev more : Numbers
     more = set.insert inos ino
 
@@ -42,14 +42,14 @@ module _ (image : Image) (point : Checkpoint) where
         by (inl same) = inr (same, small)
         by (inr old) = inl old
 
-    node_back : (other place nid : ℕ) → IsNode image point other place nid → IsBefore more next 0 other place → IsBefore inos ino node_limit other place
+    node_back : (other place nid : ℕ) → IsNode image ckpt other place nid → IsBefore more next 0 other place → IsBefore inos ino node_limit other place
     node_back other place nid is before = back node_limit other place (node_within other place nid is) before
 
-    page_back : (other place at : ℕ) → IsBasePage image point other place at → IsBefore more next 0 other place → IsBefore inos ino page_limit other place
+    page_back : (other place at : ℕ) → IsBasePage image ckpt other place at → IsBefore more next 0 other place → IsBefore inos ino page_limit other place
     page_back other place at is before = back page_limit other place is.within before
 
     -- once a file was read, the next one may be
-    pub next_file : AreTaken image point more next 0 0 taken
+    pub next_file : AreTaken image ckpt more next 0 0 taken
     next_file = record {
       fresh = other_file;
       nodes = λ at h. let t = are.nodes at h in record { other = t.other; more = t.more; nid = t.nid; is = t.is; address = t.address; before = earlier node_limit t.other t.more t.before };
@@ -62,7 +62,7 @@ module _ (image : Image) (point : Checkpoint) where
     }
 
   -- before the first file nothing was taken
-  pub first_file : (ino : ℕ) (taken : Taken) → taken.nodes ≡ set.empty → taken.pages ≡ set.empty → taken.nids ≡ set.empty → AreTaken image point set.empty ino 0 0 taken
+  pub first_file : (ino : ℕ) (taken : Taken) → taken.nodes ≡ set.empty → taken.pages ≡ set.empty → taken.nids ≡ set.empty → AreTaken image ckpt set.empty ino 0 0 taken
   first_file ino taken nodes pages nids = record {
     fresh = set.contains-empty nat_cmp ino;
     nodes = λ at h. absurd (none taken.nodes nodes at h);

@@ -7,7 +7,7 @@ use Rattle.std.proofs.lemmas.List.{get_or_default}
 use Rattle.std.proofs.lemmas.Map.Keys.{IsDistinct-from_apart}
 use Rattle.std.proofs.lemmas.Map.Steps.{length-le_from_distinct_below}
 use Rattle.std.proofs.lemmas.Map.Views.{Contains-from_any}
-use Rattle.f2_format.specs.Geometry.{Extent, nid_limit}
+use Rattle.f2_format.specs.Geometry.{ImageGeometry, nid_limit}
 use Rattle.f2_model.specs.Tree.{most_depth}
 use Rattle.f2_model.specs.declared.rows.Kind.{Kind}
 use Rattle.f2_model.specs.declared.rows.Kind.TheVariants.{Regular, Directory}
@@ -19,7 +19,7 @@ depth_within : (kind : Kind) (depth : ℕ) → depth ≤ most_depth kind → dep
 depth_within Regular depth small = omega (arith, small)
 depth_within Directory depth small = omega (arith, small)
 
-module _ (extent : Extent) (rows : BaseRows) (order : List ℕ) (queue : IsQueue extent rows order) where
+module _ (geom : ImageGeometry) (rows : BaseRows) (order : List ℕ) (queue : IsQueue geom rows order) where
   apart : (i j d : ℕ) → i < j → j < length order → eqb (get_or order i d) (get_or order j d) ≡ false
   apart i j d less small =
       let before : i < length order = omega (arith, less, small) in
@@ -27,13 +27,13 @@ module _ (extent : Extent) (rows : BaseRows) (order : List ℕ) (queue : IsQueue
       let one : i ≡ j = queue.apart i j before small (get_or_default order i 0 d before ∙ same ∙ get_or_default order j d 0 small) in
       omega (arith, less, one))
 
-  below : (q : ℕ) → list_any (eqb q) order ≡ true → q < nid_limit extent
+  below : (q : ℕ) → list_any (eqb q) order ≡ true → q < nid_limit geom
   below q found =
       let has = Contains-from_any eqb-true q order found in
-      subst (λ n. n < nid_limit extent) (get_or_default order has.0 0 q has.1 ∙ has.2) (queue.within has.0 has.1)
+      subst (λ n. n < nid_limit geom) (get_or_default order has.0 0 q has.1 ∙ has.2) (queue.within has.0 has.1)
 
-  pub length_within : length order ≤ nid_limit extent
-  length_within = length-le_from_distinct_below order (nid_limit extent) (IsDistinct-from_apart eqb order apart) below
+  pub length_within : length order ≤ nid_limit geom
+  length_within = length-le_from_distinct_below order (nid_limit geom) (IsDistinct-from_apart eqb order apart) below
 
   -- where a row stands in the queue
   pub place_of : (ino : ℕ) (row : BaseRow) → map.get rows ino ≡ Some row → (k : ℕ) × ((k < length order) × (slice_index_or order k 0 ≡ ino))

@@ -20,25 +20,25 @@ use Rattle.f2_recover.specs.declared.walk.Walk.{Walk}
 use Rattle.f2_recover.proofs.DirectoryBlocks.{blocks_of}
 use Rattle.f2_recover.proofs.Sets.{Numbers}
 
-module _ (image : Image) (point : Checkpoint) (done : Numbers) (walk : Walk) (ino : ℕ) (row : BaseRow) (there : Some row ≡ map.get walk.rows ino) (is : IsWalkedTo image point done 0 [] 0 walk) where
-  the_row : IsRowOf image point ino row
+module _ (image : Image) (ckpt : Checkpoint) (done : Numbers) (walk : Walk) (ino : ℕ) (row : BaseRow) (there : Some row ≡ map.get walk.rows ino) (is : IsWalkedTo image ckpt done 0 [] 0 walk) where
+  the_row : IsRowOf image ckpt ino row
   the_row = is.rows ino row (sym there)
 
   -- its file is reached
-  pub row_reached : IsReached image point ino
+  pub row_reached : IsReached image ckpt ino
   row_reached = the_row.file.reached
 
   -- what it names stands one name deeper
-  pub row_below : IsBelow image point (row.depth + 1 - 1) ino
-  row_below = subst (λ n. IsBelow image point n ino) (omega arith) the_row.below
+  pub row_below : IsBelow image ckpt (row.depth + 1 - 1) ino
+  row_below = subst (λ n. IsBelow image ckpt n ino) (omega arith) the_row.below
 
   -- its pages are its blocks
-  pub row_blocks : (list : List PageAt) → list ≡ row.file.nodes.list.items → row.file.kind ≡ Directory → AreBlocksOf image point ino list
-  row_blocks list same directory = subst (AreBlocksOf image point ino) (sym same) (blocks_of image point ino row the_row directory)
+  pub row_blocks : (list : List PageAt) → list ≡ row.file.nodes.list.items → row.file.kind ≡ Directory → AreBlocksOf image ckpt ino list
+  row_blocks list same directory = subst (AreBlocksOf image ckpt ino) (sym same) (blocks_of image ckpt ino row the_row directory)
 
 -- with names that are the same
-pub with_names : (image : Image) (point : Checkpoint) (done : Numbers) (walk : Walk) (a b : map.FinMap nat_cmp Entries) → b ≡ a → IsWalkedTo image point done 0 [] 0 (record walk { names = a }) → IsWalkedTo image point done 0 [] 0 (record walk { names = b })
-with_names image point done walk a b same is = subst (λ (m : map.FinMap nat_cmp Entries). IsWalkedTo image point done 0 [] 0 (record walk { names = m })) (sym same) is
+pub with_names : (image : Image) (ckpt : Checkpoint) (done : Numbers) (walk : Walk) (a b : map.FinMap nat_cmp Entries) → b ≡ a → IsWalkedTo image ckpt done 0 [] 0 (record walk { names = a }) → IsWalkedTo image ckpt done 0 [] 0 (record walk { names = b })
+with_names image ckpt done walk a b same is = subst (λ (m : map.FinMap nat_cmp Entries). IsWalkedTo image ckpt done 0 [] 0 (record walk { names = m })) (sym same) is
 
 -- a kind that isn't that of a regular file
 pub is_directory : (kind : Kind) → false ≡ sameb the_type kind Regular → kind ≡ Directory

@@ -21,9 +21,9 @@ slots_within k d small =
 abbrev begun : List ℕ → List ℕ
 begun block = filter (begins_name block) all_slots
 
-module _ (image : Image) (point : Checkpoint) (directory page at : ℕ) (is : IsDirectoryBlock image point directory page at) where
+module _ (image : Image) (ckpt : Checkpoint) (directory page at : ℕ) (is : IsDirectoryBlock image ckpt directory page at) where
   -- what is read of a block are dentries of its directory
-  pub has_dentry : (place : ℕ) (d : Dentry) → place < length (dentries_of (block_at image at)) → HasDentry image point directory (get_or (dentries_of (block_at image at)) place d)
+  pub has_dentry : (place : ℕ) (d : Dentry) → place < length (dentries_of (block_at image at)) → HasDentry image ckpt directory (get_or (dentries_of (block_at image at)) place d)
   has_dentry place d within =
       let block : List ℕ = block_at image at in
       let small : place < length (begun block) = subst (λ n. place < n) (length-map (begun block) (dentry_at block)) within in
@@ -40,5 +40,5 @@ module _ (image : Image) (point : Checkpoint) (directory page at : ℕ) (is : Is
       )
 
   -- so the inos that they name are reached
-  pub is_reached : (place : ℕ) (d : Dentry) → IsReached image point directory → place < length (dentries_of (block_at image at)) → IsReached image point (get_or (dentries_of (block_at image at)) place d).ino
+  pub is_reached : (place : ℕ) (d : Dentry) → IsReached image ckpt directory → place < length (dentries_of (block_at image at)) → IsReached image ckpt (get_or (dentries_of (block_at image at)) place d).ino
   is_reached place d reached within = below directory (get_or (dentries_of (block_at image at)) place d) reached (has_dentry place d within)

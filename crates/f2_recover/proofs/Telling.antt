@@ -5,7 +5,7 @@ use Rattle.std.specs.Result.{IfErr, IsErrAnd}
 use Rattle.f2_disk.specs.Contents.{Contents}
 use Rattle.f2_disk.specs.Meter.{Meter}
 use Rattle.f2_disk.proofs.MeterLaws.{within_none, within_then}
-use Rattle.f2_format.specs.Geometry.{Extent}
+use Rattle.f2_format.specs.Geometry.{ImageGeometry}
 use Rattle.f2_image.specs.Images.{Image}
 use Rattle.f2_image.specs.Packs.{Checkpoint}
 use Rattle.f2_recover.specs.Told.{Tells, OnlyReads}
@@ -15,8 +15,8 @@ use Rattle.f2_recover.specs.Reading.{IsRead}
 pub tells_on : (held now : Option Contents) (image : Image) → now ≡ held → Tells held image → Tells now image
 tells_on held now image same t = (t.0, same ∙ t.1, t.2)
 
-pub read_on : (held now : Option Contents) (extent later : Extent) (table : List ℕ) (image : Image) (point : Checkpoint) → now ≡ held → later ≡ extent → IsRead held extent table image point → IsRead now later table image point
-read_on held now extent later table image point same sizes is = subst (λ (e : Extent). IsRead now e table image point) (sym sizes) (record { tells = tells_on held now image same is.tells; extent_is = is.extent_is; has = is.has; size = is.size; told = is.told })
+pub read_on : (held now : Option Contents) (geom later : ImageGeometry) (table : List ℕ) (image : Image) (ckpt : Checkpoint) → now ≡ held → later ≡ geom → IsRead held geom table image ckpt → IsRead now later table image ckpt
+read_on held now geom later table image ckpt same sizes is = subst (λ (e : ImageGeometry). IsRead now e table image ckpt) (sym sizes) (record { tells = tells_on held now image same is.tells; geom_is = is.geom_is; has = is.has; size = is.size; told = is.told })
 
 -- no call, and one run of calls after another
 pub reads_none : (held : Option Contents) (old : Meter) → OnlyReads held old held old

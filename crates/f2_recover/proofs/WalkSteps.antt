@@ -4,7 +4,7 @@ use Rattle.std.specs.Prelude.{Some, slice_index_or}
 use Rattle.std.specs.FinMap as map
 use Rattle.std.specs.FinSet as set
 use Rattle.std.proofs.lemmas.Bool.{cases_eq}
-use Rattle.f2_format.specs.Geometry.{Extent}
+use Rattle.f2_format.specs.Geometry.{ImageGeometry}
 use Rattle.f2_model.specs.Tree.{most_depth}
 use Rattle.f2_model.specs.declared.rows.Kind.{Kind}
 use Rattle.f2_model.specs.declared.rows.Kind.TheVariants.{Regular, Directory}
@@ -27,14 +27,14 @@ pub record AreDone (rows : BaseRows) (order : List ℕ) (next : ℕ) (done : Num
   pub all : (k : ℕ) → k < next → HasDirectory rows (slice_index_or order k 0) → set.contains done (slice_index_or order k 0) ≡ true
 
 -- the base was walked as far as those directories
-pub record IsWalkedBefore (image : Image) (point : Checkpoint) (walk : Walk) (next : ℕ) : Type 0 where
+pub record IsWalkedBefore (image : Image) (ckpt : Checkpoint) (walk : Walk) (next : ℕ) : Type 0 where
   pub done : Numbers
-  pub to : IsWalkedTo image point done 0 [] 0 walk
+  pub to : IsWalkedTo image ckpt done 0 [] 0 walk
   pub are : AreDone walk.rows walk.order.items next done
 
-module _ (image : Image) (point : Checkpoint) where
+module _ (image : Image) (ckpt : Checkpoint) where
   -- at the begin none is done
-  pub before_none : (walk : Walk) → IsWalkedTo image point set.empty 0 [] 0 walk → IsWalkedBefore image point walk 0
+  pub before_none : (walk : Walk) → IsWalkedTo image ckpt set.empty 0 [] 0 walk → IsWalkedBefore image ckpt walk 0
   before_none walk is = record {
     done = set.empty;
     to = is;
@@ -42,17 +42,17 @@ module _ (image : Image) (point : Checkpoint) where
   }
 
   -- at the end all are
-  pub walked_whole : (extent : Extent) (walk : Walk) (next : ℕ) → IsQueue extent walk.rows walk.order.items → IsWalkedBefore image point walk next → length walk.order.items ≤ next → IsWalked image point walk
-  walked_whole extent walk next queue before past = record {
+  pub walked_whole : (geom : ImageGeometry) (walk : Walk) (next : ℕ) → IsQueue geom walk.rows walk.order.items → IsWalkedBefore image ckpt walk next → length walk.order.items ≤ next → IsWalked image ckpt walk
+  walked_whole geom walk next queue before past = record {
     done = before.done;
     to = before.to;
     all = λ ino row there directory.
-        let at = place_of extent walk.rows walk.order.items queue ino row there in
+        let at = place_of geom walk.rows walk.order.items queue ino row there in
         let small : at.0 < next = (let within = at.1.0 in omega (arith, within, past)) in
         subst (λ n. set.contains before.done n ≡ true) at.1.1 (before.are.all at.0 small (record { row = row; there = ap (map.get walk.rows) at.1.1 ∙ there; is = directory }));
   }
 
-  module _ (extent : Extent) (old : Walk) (next ino : ℕ) (queue : IsQueue extent old.rows old.order.items) (before : IsWalkedBefore image point old next) (small : next < length old.order.items)
+  module _ (geom : ImageGeometry) (old : Walk) (next ino : ℕ) (queue : IsQueue geom old.rows old.order.items) (before : IsWalkedBefore image ckpt old next) (small : next < length old.order.items)
       (at : slice_index_or old.order.items next 0 ≡ ino) where
     -- the next row isn't done
     pub next_fresh : set.contains before.done ino ≡ false
@@ -85,7 +85,7 @@ module _ (image : Image) (point : Checkpoint) where
       next_is = longer.order next small ∙ at
 
       -- the next row is a directory, and was walked
-      directory_done : IsWalkedTo image point (set.insert before.done ino) 0 [] 0 new → IsWalkedBefore image point new (next + 1)
+      directory_done : IsWalkedTo image ckpt (set.insert before.done ino) 0 [] 0 new → IsWalkedBefore image ckpt new (next + 1)
       directory_done walked = record {
         done = set.insert before.done ino;
         to = walked;
@@ -101,7 +101,7 @@ module _ (image : Image) (point : Checkpoint) where
           by_all k less has (inr other) = stays before.done ino _ (all_before k (omega (arith, less, other)) has)
 
       -- the next row is none
-      file_done : (HasDirectory new.rows ino → ⊥) → IsWalkedTo image point before.done 0 [] 0 new → IsWalkedBefore image point new (next + 1)
+      file_done : (HasDirectory new.rows ino → ⊥) → IsWalkedTo image ckpt before.done 0 [] 0 new → IsWalkedBefore image ckpt new (next + 1)
       file_done none walked = record {
         done = before.done;
         to = walked;
@@ -113,8 +113,8 @@ module _ (image : Image) (point : Checkpoint) where
           by_all k less has (inr other) = all_before k (omega (arith, less, other)) has
 
       -- one row more was walked
-      pub before_more : ((done : Numbers) → set.contains done ino ≡ false → IsWalkedTo image point done 0 [] 0 old → HasDirectory old.rows ino → IsWalkedTo image point (set.insert done ino) 0 [] 0 new)
-          → ((row : BaseRow) → map.get old.rows ino ≡ Some row → row.file.kind ≢ Directory → new ≡ old) → IsWalkedBefore image point new (next + 1)
+      pub before_more : ((done : Numbers) → set.contains done ino ≡ false → IsWalkedTo image ckpt done 0 [] 0 old → HasDirectory old.rows ino → IsWalkedTo image ckpt (set.insert done ino) 0 [] 0 new)
+          → ((row : BaseRow) → map.get old.rows ino ≡ Some row → row.file.kind ≢ Directory → new ≡ old) → IsWalkedBefore image ckpt new (next + 1)
       before_more walked file = by_kind found.row.file.kind refl
         where
           found : HasRow old.rows ino (λ row. row.depth ≤ most_depth row.file.kind)
@@ -123,11 +123,11 @@ module _ (image : Image) (point : Checkpoint) where
           no_other : Regular ≡ Directory → ⊥
           no_other e = cc
 
-          by_kind : (kind : Kind) → found.row.file.kind ≡ kind → IsWalkedBefore image point new (next + 1)
+          by_kind : (kind : Kind) → found.row.file.kind ≡ kind → IsWalkedBefore image ckpt new (next + 1)
           by_kind Directory is = directory_done (walked before.done next_fresh before.to (record { row = found.row; there = found.there; is = is }))
           by_kind Regular is =
               let other : found.row.file.kind ≢ Directory = λ e. no_other (sym is ∙ e) in
               let same : new ≡ old = file found.row found.there other in
               file_done
               (λ has. other (ap (λ (r : BaseRow). r.file.kind) (same_some found.row has.row (sym found.there ∙ ap (λ (w : Walk). map.get w.rows ino) (sym same) ∙ has.there)) ∙ has.is))
-              (subst (IsWalkedTo image point before.done 0 [] 0) (sym same) before.to)
+              (subst (IsWalkedTo image ckpt before.done 0 [] 0) (sym same) before.to)

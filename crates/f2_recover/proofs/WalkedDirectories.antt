@@ -19,13 +19,13 @@ use Rattle.f2_recover.specs.declared.walk.Walk.{Walk}
 use Rattle.f2_recover.proofs.RowMaps.{keys_more}
 use Rattle.f2_recover.proofs.Sets.{Numbers, not_both, here, stays, one_of}
 
-module _ (image : Image) (point : Checkpoint) (done : Numbers) where
+module _ (image : Image) (ckpt : Checkpoint) (done : Numbers) where
   passed_too : (a b : ℕ) (from to : List (ℕ × ℕ)) (of page slot : ℕ) → IsPassed done a from 0 of page slot → IsPassed done b to 0 of page slot
   passed_too a b from to of page slot (inl whole) = inl whole
   passed_too a b from to of page slot (inr first) = absurd (let less = first.1.1.0 in omega (arith, less))
 
   -- before the first dentry it doesn't matter which directory is walked
-  pub walked_none : (a b : ℕ) (from to : List (ℕ × ℕ)) (walk : Walk) → IsWalkedTo image point done a from 0 walk → IsWalkedTo image point done b to 0 walk
+  pub walked_none : (a b : ℕ) (from to : List (ℕ × ℕ)) (walk : Walk) → IsWalkedTo image ckpt done a from 0 walk → IsWalkedTo image ckpt done b to 0 walk
   walked_none a b from to walk is = record {
     taken = is.taken;
     rows = is.rows;
@@ -38,19 +38,19 @@ module _ (image : Image) (point : Checkpoint) (done : Numbers) where
     others = is.others;
   }
 
-  module _ (directory : ℕ) (places : List (ℕ × ℕ)) (dents : List Dent) (are : AreDentsAt image point directory places dents) where
+  module _ (directory : ℕ) (places : List (ℕ × ℕ)) (dents : List Dent) (are : AreDentsAt image ckpt directory places dents) where
     -- the names of all dents are those of the directory
-    pub names_of : (names : Entries) → AreFirstNames dents (length dents) names → AreNamesOf image point directory names
+    pub names_of : (names : Entries) → AreFirstNames dents (length dents) names → AreNamesOf image ckpt directory names
     names_of names first = record {
       only = λ name ino kind there.
           let at = first.only name ino kind there in
           let place = slice_index_or places at.0 (0, 0) in
-          (place.0, place.1, subst (λ (d : Dent). HasDentryAt image point directory place.0 place.1 (dentry_of d)) at.1.1 (are.there at.0 at.1.0));
+          (place.0, place.1, subst (λ (d : Dent). HasDentryAt image ckpt directory place.0 place.1 (dentry_of d)) at.1.1 (are.there at.0 at.1.0));
       all = λ dentry has.
           let at = are.all has.0 has.1 dentry has.2 in
           let dent : Dent = slice_index_or dents at.0 no_dent in
-          let there : HasDentryAt image point directory has.0 has.1 (dentry_of dent) = subst (λ (p : ℕ × ℕ). HasDentryAt image point directory p.0 p.1 (dentry_of dent)) at.1.1 (are.there at.0 at.1.0) in
-          let same : dentry_of dent ≡ dentry = same_dentry image point directory has.0 has.1 (dentry_of dent) dentry there has.2 in
+          let there : HasDentryAt image ckpt directory has.0 has.1 (dentry_of dent) = subst (λ (p : ℕ × ℕ). HasDentryAt image ckpt directory p.0 p.1 (dentry_of dent)) at.1.1 (are.there at.0 at.1.0) in
+          let same : dentry_of dent ≡ dentry = same_dentry image ckpt directory has.0 has.1 (dentry_of dent) dentry there has.2 in
           (dent.kind, (subst (λ (d : Dentry). map.get names d.name ≡ Some (d.ino, dent.kind)) same (first.all at.0 at.1.0), ap (λ (d : Dentry). d.type) (sym same)));
     }
 
@@ -62,29 +62,29 @@ module _ (image : Image) (point : Checkpoint) (done : Numbers) where
       passed_more of page slot (inl whole) = inl (stays done directory of whole)
       passed_more of page slot (inr first) = inl (subst (λ n. set.contains more n ≡ true) (sym first.0) (here done directory))
 
-      passed_all : (of page slot : ℕ) (dentry : Dentry) → HasDentryAt image point of page slot dentry → IsPassed more 0 [] 0 of page slot → IsPassed done directory places (length dents) of page slot
+      passed_all : (of page slot : ℕ) (dentry : Dentry) → HasDentryAt image ckpt of page slot dentry → IsPassed more 0 [] 0 of page slot → IsPassed done directory places (length dents) of page slot
       passed_all of page slot dentry has (inr first) = absurd (let less = first.1.1.0 in omega (arith, less))
       passed_all of page slot dentry has (inl whole) = by (one_of done directory of whole)
         where
           by : (of ≡ directory) ⊎ (set.contains done of ≡ true) → IsPassed done directory places (length dents) of page slot
-          by (inl same) = inr (same, are.all page slot dentry (subst (λ n. HasDentryAt image point n page slot dentry) same has))
+          by (inl same) = inr (same, are.all page slot dentry (subst (λ n. HasDentryAt image ckpt n page slot dentry) same has))
           by (inr old) = inl old
 
       -- behind its last dentry a directory is done, with its names
-      module _ (walk : Walk) (names : Entries) (is : IsWalkedTo image point done directory places (length dents) walk) (first : AreFirstNames dents (length dents) names)
+      module _ (walk : Walk) (names : Entries) (is : IsWalkedTo image ckpt done directory places (length dents) walk) (first : AreFirstNames dents (length dents) names)
           (row : HasRow walk.rows directory (λ row. row.file.kind ≡ Directory)) where
         abbrev now : Walk
         now = record walk { names = map.insert walk.names directory names }
 
-        walked_each : (of : ℕ) → (of ≡ directory) ⊎ (set.contains done of ≡ true) → IsWalkedDirectory image point now of
+        walked_each : (of : ℕ) → (of ≡ directory) ⊎ (set.contains done of ≡ true) → IsWalkedDirectory image ckpt now of
         walked_each of (inl same) =
-            subst (IsWalkedDirectory image point now) (sym same) (record { row = row; names = names; known = get_put walk.names directory names; are = names_of names first; whole = are.whole })
+            subst (IsWalkedDirectory image ckpt now) (sym same) (record { row = row; names = names; known = get_put walk.names directory names; are = names_of names first; whole = are.whole })
         walked_each of (inr old) =
             let was = is.walked of old in
             let other : of ≢ directory = λ same. not_both old (ap (set.contains done) same ∙ fresh) in
             record { row = was.row; names = was.names; known = get_put-other walk.names directory names of other ∙ was.known; are = was.are; whole = was.whole }
 
-        pub walked_done : IsWalkedTo image point more 0 [] 0 now
+        pub walked_done : IsWalkedTo image ckpt more 0 [] 0 now
         walked_done = record {
           taken = is.taken;
           rows = is.rows;

@@ -44,6 +44,6 @@ number_of (TooFull limit) = limit
 
 -- a condition that is told stands; the other faults say nothing of the image
 abbrev pub IsRightFault : Image → Checkpoint → MountFault → Type 0
-IsRightFault image point (Bad bad) = StandsAt (which_of bad) image point (number_of bad)
-IsRightFault image point Read = ⊤
-IsRightFault image point Memory = ⊤
+IsRightFault image ckpt (Bad bad) = StandsAt (which_of bad) image ckpt (number_of bad)
+IsRightFault image ckpt Read = ⊤
+IsRightFault image ckpt Memory = ⊤

@@ -13,13 +13,13 @@ use Rattle.f2_recover.specs.Seeing.{IsSeen, node_limit}
 use Rattle.f2_recover.specs.declared.files.File.{File}
 
 -- a file has this kind and this size, and what is kept of it are all its nodes and pages
-pub record IsFileRead (image : Image) (point : Checkpoint) (inos : set.FinSet nat_cmp) (ino : ℕ) (taken : Taken) (file : File) : Type 0 where
-  pub reached : IsReached image point ino
+pub record IsFileRead (image : Image) (ckpt : Checkpoint) (inos : set.FinSet nat_cmp) (ino : ℕ) (taken : Taken) (file : File) : Type 0 where
+  pub reached : IsReached image ckpt ino
   pub inode : List ℕ
-  pub is : IsInode image point ino file.kind inode
+  pub is : IsInode image ckpt ino file.kind inode
   pub own : ¬ (IsForeign inode)
   pub size : file.size ≡ (inode_of inode).size
-  pub seen : IsSeen image point inos ino node_limit page_limit taken file.nodes
+  pub seen : IsSeen image ckpt inos ino node_limit page_limit taken file.nodes
 
 -- the nids of an inode behind those of its two direct nodes
 pub record AreLast (nids inode : List ℕ) : Type 0 where

@@ -8,10 +8,10 @@ use Rattle.f2_image.specs.Bases.{IsReached, HasDentry}
 use Rattle.f2_image.specs.Faults.{type_of_kind}
 
 -- a dentry of a directory of the base names an ino as a file of this kind
-pub record IsNamedAs (image : Image) (point : Checkpoint) (ino : ℕ) (kind : Kind) : Type 0 where
+pub record IsNamedAs (image : Image) (ckpt : Checkpoint) (ino : ℕ) (kind : Kind) : Type 0 where
   pub directory : ℕ
   pub dentry : Dentry
-  pub reached : IsReached image point directory
-  pub has : HasDentry image point directory dentry
+  pub reached : IsReached image ckpt directory
+  pub has : HasDentry image ckpt directory dentry
   pub is : dentry.ino ≡ ino
   pub typed : dentry.type ≡ type_of_kind kind

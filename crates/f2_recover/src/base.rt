@@ -6,7 +6,7 @@ ghost use Rattle.f2_image.specs.Images.{Image};
 ghost use Rattle.f2_image.specs.Packs.{Checkpoint};
 ghost use Rattle.f2_recover.specs.Told.{Tells, OnlyReads};
 ghost use Rattle.f2_recover.specs.Faults.{IsRightFault};
-ghost use Rattle.f2_recover.specs.Walking.{IsPointOf, IsBaseRead};
+ghost use Rattle.f2_recover.specs.Walking.{IsCkptOf, IsBaseRead};
 
 use crate::closing::{check_counts, check_reached};
 use crate::faults::{BadImage, MountFault};
@@ -32,8 +32,8 @@ pub fn read_base<D: Disk>(
     summary: &Block,
 ) -> Result<Walk, MountFault>
     requires device { g.now.blocks ≤ (D.meter disk.old).blocks }
-    ensures base { IfOk result (λ walk. (image : Image) (point : Checkpoint) → Tells (D.contents disk.old) image → IsPointOf g.now bitmap.now summary.now point → IsBaseRead image point walk) }
-    ensures fault { IfErr result (λ fault. (image : Image) (point : Checkpoint) → Tells (D.contents disk.old) image → IsPointOf g.now bitmap.now summary.now point → IsRightFault image point fault) }
+    ensures base { IfOk result (λ walk. (image : Image) (ckpt : Checkpoint) → Tells (D.contents disk.old) image → IsCkptOf g.now bitmap.now summary.now ckpt → IsBaseRead image ckpt walk) }
+    ensures fault { IfErr result (λ fault. (image : Image) (ckpt : Checkpoint) → Tells (D.contents disk.old) image → IsCkptOf g.now bitmap.now summary.now ckpt → IsRightFault image ckpt fault) }
     ensures reads { OnlyReads (D.contents disk.old) (D.meter disk.old) (D.contents disk.new) (D.meter disk.new) }
     ensures cause { result ≡ Err MountFault.Read → HasFailed (D.meter disk.old) (D.meter disk.new) }
 {
@@ -50,7 +50,7 @@ pub fn read_base<D: Disk>(
 fn read_journal(summary: &Block) -> Result<Journal, MountFault>
     ensures journal { IfOk result (λ journal. journal ≡ journal_of summary.now) }
     ensures has { OnOk result (journal_count summary.now ≤ MOST_JOURNAL_ENTRIES) }
-    ensures fault { IfErr result (λ fault. (image : Image) (point : Checkpoint) → point.summary ≡ summary.now → IsRightFault image point fault) }
+    ensures fault { IfErr result (λ fault. (image : Image) (ckpt : Checkpoint) → ckpt.summary ≡ summary.now → IsRightFault image ckpt fault) }
     ensures no_read { result ≢ Err MountFault.Read }
 {
     match Journal::read(summary) {

@@ -31,11 +31,11 @@ pub(crate) fn read_direct<D: Disk>(
     node: NodeName,
     number: u32,
 ) -> Result<(), MountFault>
-    requires device { zones.old.extent.blocks ≤ (D.meter disk.old).blocks }
+    requires device { zones.old.geom.blocks ≤ (D.meter disk.old).blocks }
     requires number { number < direct_limit }
     requires offset { node.offset ≡ nth_direct number }
     ensures seen { OnOk result (Goes (D.contents disk.old) table.now node (923 + 1018 * number) zones.old file.old (node.offset + 1) (923 + 1018 * (number + 1)) zones.new file.new) }
-    ensures extent { OnOk result (zones.new.extent ≡ zones.old.extent) }
+    ensures geom { OnOk result (zones.new.geom ≡ zones.old.geom) }
     ensures fault { IfErr result (Fails (D.contents disk.old) table.now node (923 + 1018 * number) zones.old file.old) }
     ensures reads { OnlyReads (D.contents disk.old) (D.meter disk.old) (D.contents disk.new) (D.meter disk.new) }
     ensures cause { result ≡ Err MountFault.Read → HasFailed (D.meter disk.old) (D.meter disk.new) }
@@ -61,10 +61,10 @@ pub(crate) fn read_indirect<D: Disk>(
     node: NodeName,
     number: u32,
 ) -> Result<(), MountFault>
-    requires device { zones.old.extent.blocks ≤ (D.meter disk.old).blocks }
+    requires device { zones.old.geom.blocks ≤ (D.meter disk.old).blocks }
     requires indirect { IsIndirect node.offset number }
     ensures seen { OnOk result (Goes (D.contents disk.old) table.now node (923 + 1018 * number) zones.old file.old (node.offset + 1019) (923 + 1018 * (number + 1018)) zones.new file.new) }
-    ensures extent { OnOk result (zones.new.extent ≡ zones.old.extent) }
+    ensures geom { OnOk result (zones.new.geom ≡ zones.old.geom) }
     ensures fault { IfErr result (Fails (D.contents disk.old) table.now node (923 + 1018 * number) zones.old file.old) }
     ensures reads { OnlyReads (D.contents disk.old) (D.meter disk.old) (D.contents disk.new) (D.meter disk.new) }
     ensures cause { result ≡ Err MountFault.Read → HasFailed (D.meter disk.old) (D.meter disk.new) }
@@ -93,10 +93,10 @@ pub(crate) fn read_double<D: Disk>(
     file: &mut FileNodes,
     node: NodeName,
 ) -> Result<(), MountFault>
-    requires device { zones.old.extent.blocks ≤ (D.meter disk.old).blocks }
+    requires device { zones.old.geom.blocks ≤ (D.meter disk.old).blocks }
     requires offset { node.offset ≡ double_indirect }
     ensures seen { OnOk result (Goes (D.contents disk.old) table.now node (923 + 1018 * 2038) zones.old file.old node_limit page_limit zones.new file.new) }
-    ensures extent { OnOk result (zones.new.extent ≡ zones.old.extent) }
+    ensures geom { OnOk result (zones.new.geom ≡ zones.old.geom) }
     ensures fault { IfErr result (Fails (D.contents disk.old) table.now node (923 + 1018 * 2038) zones.old file.old) }
     ensures reads { OnlyReads (D.contents disk.old) (D.meter disk.old) (D.contents disk.new) (D.meter disk.new) }
     ensures cause { result ≡ Err MountFault.Read → HasFailed (D.meter disk.old) (D.meter disk.new) }

@@ -19,7 +19,7 @@ use f2_layout::Geometry;
 pub(crate) fn check_reached(table: &[u32], zones: &Zones) -> Result<(), MountFault>
     requires { length table.now < 2 ^ 31 }
     ensures right { OnOk result ((nid : ℕ) → nid < length table.now → slice_index table.now nid ≢ 0 → set.contains zones.now.nids nid ≡ true) }
-    ensures fault { IfErr result (λ fault. (held : Option Contents) (image : Image) (point : Checkpoint) → IsRead held zones.now.extent table.now image point → AreAllNodes image point zones.now → IsRightFault image point fault) }
+    ensures fault { IfErr result (λ fault. (held : Option Contents) (image : Image) (ckpt : Checkpoint) → IsRead held zones.now.geom table.now image ckpt → AreAllNodes image ckpt zones.now → IsRightFault image ckpt fault) }
     ensures no_read { result ≢ Err MountFault.Read }
 {
     for (nid, at) in table.iter().enumerate() {
@@ -34,8 +34,8 @@ pub(crate) fn check_reached(table: &[u32], zones: &Zones) -> Result<(), MountFau
 pub(crate) fn check_counts(zones: &Zones, g: &Geometry) -> Result<(), MountFault>
     ensures nodes { OnOk result (set.len zones.now.nodes ≤ node_third g.now) }
     ensures pages { OnOk result (set.len zones.now.pages ≤ data_third g.now) }
-    ensures fault { IfErr result (λ fault. (image : Image) (point : Checkpoint) (inos : set.FinSet nat_cmp) (ino offset page : ℕ) → HasTable point → point.extent ≡ g.now
-        → AreTaken image point inos ino offset page zones.now → IsRightFault image point fault) }
+    ensures fault { IfErr result (λ fault. (image : Image) (ckpt : Checkpoint) (inos : set.FinSet nat_cmp) (ino offset page : ℕ) → HasTable ckpt → ckpt.geom ≡ g.now
+        → AreTaken image ckpt inos ino offset page zones.now → IsRightFault image ckpt fault) }
     ensures no_read { result ≢ Err MountFault.Read }
 {
     let nodes = g.cn();

@@ -32,8 +32,8 @@ pub(crate) fn read_dents<D: Disk>(
     requires device { g.now.blocks ≤ (D.meter disk.old).blocks }
     ensures dents { IfOk result (λ dents. (image : Image) → Tells (D.contents disk.old) image → map dentry_of dents.items ≡ dentries_of (block_at image at)) }
     ensures whole { IfOk result (λ _. (image : Image) → Tells (D.contents disk.old) image → dentry_fault (block_at image at) ≡ None) }
-    ensures fault { IfErr result (λ fault. (image : Image) (point : Checkpoint) (directory page : ℕ) → Tells (D.contents disk.old) image → HasTable point → point.extent ≡ g.now → IsReached image point directory
-        → IsDirectoryBlock image point directory page at → IsRightFault image point fault) }
+    ensures fault { IfErr result (λ fault. (image : Image) (ckpt : Checkpoint) (directory page : ℕ) → Tells (D.contents disk.old) image → HasTable ckpt → ckpt.geom ≡ g.now → IsReached image ckpt directory
+        → IsDirectoryBlock image ckpt directory page at → IsRightFault image ckpt fault) }
     ensures reads { OnlyReads (D.contents disk.old) (D.meter disk.old) (D.contents disk.new) (D.meter disk.new) }
     ensures cause { result ≡ Err MountFault.Read → HasFailed (D.meter disk.old) (D.meter disk.new) }
 {
@@ -64,7 +64,7 @@ fn unpack_at(alloc: Global, block: &Block, at: u32) -> Result<Vec<Dent>, MountFa
 pub(crate) fn check_dent(dent: &Dent) -> Result<(), MountFault>
     ensures least { OnOk result (4 ≤ dent.now.ino) }
     ensures name { OnOk result (is_good_name dent.now.name ≡ true) }
-    ensures fault { IfErr result (λ fault. (image : Image) (point : Checkpoint) (directory : ℕ) → HasTable point → IsReached image point directory → HasDentry image point directory (dentry_of dent.now) → IsRightFault image point fault) }
+    ensures fault { IfErr result (λ fault. (image : Image) (ckpt : Checkpoint) (directory : ℕ) → HasTable ckpt → IsReached image ckpt directory → HasDentry image ckpt directory (dentry_of dent.now) → IsRightFault image ckpt fault) }
     ensures no_read { result ≢ Err MountFault.Read }
 {
     if dent.ino < LEAST_INO {

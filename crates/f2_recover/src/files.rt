@@ -4,7 +4,7 @@ ghost use Rattle.std.specs.Ordering.{nat_cmp};
 ghost use Rattle.std.specs.FinMap as map;
 ghost use Rattle.std.specs.FinSet as set;
 ghost use Rattle.f2_disk.specs.Meter.{HasFailed};
-ghost use Rattle.f2_format.specs.Geometry.{Extent, nid_limit};
+ghost use Rattle.f2_format.specs.Geometry.{ImageGeometry, nid_limit};
 ghost use Rattle.f2_format.specs.Inode.{inode_of};
 ghost use Rattle.f2_format.specs.Offsets.{inode_pages, page_limit};
 ghost use Rattle.f2_image.specs.Images.{Image};
@@ -61,11 +61,11 @@ fn add_first_pages(
     file: &mut FileNodes,
     addresses: &[u32; 923],
 ) -> Result<(), MountFault>
-    ensures seen { OnOk result ((image : Image) (point : Checkpoint) (inos : set.FinSet nat_cmp) (ino offset : ℕ) (inode : List ℕ) → point.extent ≡ zones.old.extent → IsFile image point ino inode
-        → addresses.now ≡ (inode_of inode).addresses → IsSeen image point inos ino offset 0 zones.old file.old → IsSeen image point inos ino offset inode_pages zones.new file.new) }
-    ensures extent { OnOk result (zones.new.extent ≡ zones.old.extent) }
-    ensures fault { IfErr result (λ fault. (image : Image) (point : Checkpoint) (inos : set.FinSet nat_cmp) (ino offset : ℕ) (inode : List ℕ) → point.extent ≡ zones.old.extent → HasTable point → IsFile image point ino inode
-        → addresses.now ≡ (inode_of inode).addresses → IsSeen image point inos ino offset 0 zones.old file.old → IsRightFault image point fault) }
+    ensures seen { OnOk result ((image : Image) (ckpt : Checkpoint) (inos : set.FinSet nat_cmp) (ino offset : ℕ) (inode : List ℕ) → ckpt.geom ≡ zones.old.geom → IsFile image ckpt ino inode
+        → addresses.now ≡ (inode_of inode).addresses → IsSeen image ckpt inos ino offset 0 zones.old file.old → IsSeen image ckpt inos ino offset inode_pages zones.new file.new) }
+    ensures geom { OnOk result (zones.new.geom ≡ zones.old.geom) }
+    ensures fault { IfErr result (λ fault. (image : Image) (ckpt : Checkpoint) (inos : set.FinSet nat_cmp) (ino offset : ℕ) (inode : List ℕ) → ckpt.geom ≡ zones.old.geom → HasTable ckpt → IsFile image ckpt ino inode
+        → addresses.now ≡ (inode_of inode).addresses → IsSeen image ckpt inos ino offset 0 zones.old file.old → IsRightFault image ckpt fault) }
     ensures no_read { result ≢ Err MountFault.Read }
 {
     for page in 0..INODE_PAGES {
@@ -83,12 +83,12 @@ fn read_below<D: Disk>(
     ino: u32,
     nids: &[u32; 5],
 ) -> Result<(), MountFault>
-    requires device { zones.old.extent.blocks ≤ (D.meter disk.old).blocks }
-    ensures seen { OnOk result ((image : Image) (point : Checkpoint) (inos : set.FinSet nat_cmp) (inode : List ℕ) → IsRead (D.contents disk.old) zones.old.extent table.now image point → IsFile image point ino inode
-        → nids.now ≡ (inode_of inode).nids → IsSeen image point inos ino 1 inode_pages zones.old file.old → IsSeen image point inos ino node_limit page_limit zones.new file.new) }
-    ensures extent { OnOk result (zones.new.extent ≡ zones.old.extent) }
-    ensures fault { IfErr result (λ fault. (image : Image) (point : Checkpoint) (inos : set.FinSet nat_cmp) (inode : List ℕ) → IsRead (D.contents disk.old) zones.old.extent table.now image point → IsFile image point ino inode
-        → nids.now ≡ (inode_of inode).nids → IsSeen image point inos ino 1 inode_pages zones.old file.old → IsRightFault image point fault) }
+    requires device { zones.old.geom.blocks ≤ (D.meter disk.old).blocks }
+    ensures seen { OnOk result ((image : Image) (ckpt : Checkpoint) (inos : set.FinSet nat_cmp) (inode : List ℕ) → IsRead (D.contents disk.old) zones.old.geom table.now image ckpt → IsFile image ckpt ino inode
+        → nids.now ≡ (inode_of inode).nids → IsSeen image ckpt inos ino 1 inode_pages zones.old file.old → IsSeen image ckpt inos ino node_limit page_limit zones.new file.new) }
+    ensures geom { OnOk result (zones.new.geom ≡ zones.old.geom) }
+    ensures fault { IfErr result (λ fault. (image : Image) (ckpt : Checkpoint) (inos : set.FinSet nat_cmp) (inode : List ℕ) → IsRead (D.contents disk.old) zones.old.geom table.now image ckpt → IsFile image ckpt ino inode
+        → nids.now ≡ (inode_of inode).nids → IsSeen image ckpt inos ino 1 inode_pages zones.old file.old → IsRightFault image ckpt fault) }
     ensures reads { OnlyReads (D.contents disk.old) (D.meter disk.old) (D.contents disk.new) (D.meter disk.new) }
     ensures cause { result ≡ Err MountFault.Read → HasFailed (D.meter disk.old) (D.meter disk.new) }
 {
@@ -118,12 +118,12 @@ fn read_indirects<D: Disk>(
     ino: u32,
     nids: [u32; 3],
 ) -> Result<(), MountFault>
-    requires device { zones.old.extent.blocks ≤ (D.meter disk.old).blocks }
-    ensures seen { OnOk result ((image : Image) (point : Checkpoint) (inos : set.FinSet nat_cmp) (inode : List ℕ) → IsRead (D.contents disk.old) zones.old.extent table.now image point → IsFile image point ino inode
-        → AreLast nids inode → IsSeen image point inos ino 3 2959 zones.old file.old → IsSeen image point inos ino node_limit page_limit zones.new file.new) }
-    ensures extent { OnOk result (zones.new.extent ≡ zones.old.extent) }
-    ensures fault { IfErr result (λ fault. (image : Image) (point : Checkpoint) (inos : set.FinSet nat_cmp) (inode : List ℕ) → IsRead (D.contents disk.old) zones.old.extent table.now image point → IsFile image point ino inode
-        → AreLast nids inode → IsSeen image point inos ino 3 2959 zones.old file.old → IsRightFault image point fault) }
+    requires device { zones.old.geom.blocks ≤ (D.meter disk.old).blocks }
+    ensures seen { OnOk result ((image : Image) (ckpt : Checkpoint) (inos : set.FinSet nat_cmp) (inode : List ℕ) → IsRead (D.contents disk.old) zones.old.geom table.now image ckpt → IsFile image ckpt ino inode
+        → AreLast nids inode → IsSeen image ckpt inos ino 3 2959 zones.old file.old → IsSeen image ckpt inos ino node_limit page_limit zones.new file.new) }
+    ensures geom { OnOk result (zones.new.geom ≡ zones.old.geom) }
+    ensures fault { IfErr result (λ fault. (image : Image) (ckpt : Checkpoint) (inos : set.FinSet nat_cmp) (inode : List ℕ) → IsRead (D.contents disk.old) zones.old.geom table.now image ckpt → IsFile image ckpt ino inode
+        → AreLast nids inode → IsSeen image ckpt inos ino 3 2959 zones.old file.old → IsRightFault image ckpt fault) }
     ensures reads { OnlyReads (D.contents disk.old) (D.meter disk.old) (D.contents disk.new) (D.meter disk.new) }
     ensures cause { result ≡ Err MountFault.Read → HasFailed (D.meter disk.old) (D.meter disk.new) }
 {
@@ -156,13 +156,13 @@ pub(crate) fn read_file<D: Disk>(
     zones: &mut Zones,
     ino: u32,
 ) -> Result<File, MountFault>
-    requires device { zones.old.extent.blocks ≤ (D.meter disk.old).blocks }
-    ensures file { IfOk result (λ file. (image : Image) (point : Checkpoint) (inos : set.FinSet nat_cmp) → IsRead (D.contents disk.old) zones.old.extent table.now image point → IsReached image point ino
-        → AreTaken image point inos ino 0 0 zones.old → IsFileRead image point inos ino zones.new file) }
-    ensures within { OnOk result (ino < nid_limit zones.old.extent) }
-    ensures extent { OnOk result (zones.new.extent ≡ zones.old.extent) }
-    ensures fault { IfErr result (λ fault. (image : Image) (point : Checkpoint) (inos : set.FinSet nat_cmp) → IsRead (D.contents disk.old) zones.old.extent table.now image point → IsReached image point ino
-        → AreTaken image point inos ino 0 0 zones.old → IsRightFault image point fault) }
+    requires device { zones.old.geom.blocks ≤ (D.meter disk.old).blocks }
+    ensures file { IfOk result (λ file. (image : Image) (ckpt : Checkpoint) (inos : set.FinSet nat_cmp) → IsRead (D.contents disk.old) zones.old.geom table.now image ckpt → IsReached image ckpt ino
+        → AreTaken image ckpt inos ino 0 0 zones.old → IsFileRead image ckpt inos ino zones.new file) }
+    ensures within { OnOk result (ino < nid_limit zones.old.geom) }
+    ensures geom { OnOk result (zones.new.geom ≡ zones.old.geom) }
+    ensures fault { IfErr result (λ fault. (image : Image) (ckpt : Checkpoint) (inos : set.FinSet nat_cmp) → IsRead (D.contents disk.old) zones.old.geom table.now image ckpt → IsReached image ckpt ino
+        → AreTaken image ckpt inos ino 0 0 zones.old → IsRightFault image ckpt fault) }
     ensures reads { OnlyReads (D.contents disk.old) (D.meter disk.old) (D.contents disk.new) (D.meter disk.new) }
     ensures cause { result ≡ Err MountFault.Read → HasFailed (D.meter disk.old) (D.meter disk.new) }
 {

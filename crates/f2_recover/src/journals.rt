@@ -28,8 +28,8 @@ const ENTRIES_A_NAT_BLOCK: u32 = 455;
 /// Whether the journal of a summary names each nid once, and none past the table.
 pub(crate) fn check_entries(alloc: Global, g: &Geometry, summary: &Block) -> Result<(), MountFault>
     requires { journal_count summary.now ≤ MOST_JOURNAL_ENTRIES }
-    ensures right { OnOk result ((point : Checkpoint) → point.extent ≡ g.now → point.summary ≡ summary.now → (nid : ℕ) → ¬ (IsBadEntry point nid)) }
-    ensures fault { IfErr result (λ fault. (image : Image) (point : Checkpoint) → point.extent ≡ g.now → point.summary ≡ summary.now → HasTable point → IsRightFault image point fault) }
+    ensures right { OnOk result ((ckpt : Checkpoint) → ckpt.geom ≡ g.now → ckpt.summary ≡ summary.now → (nid : ℕ) → ¬ (IsBadEntry ckpt nid)) }
+    ensures fault { IfErr result (λ fault. (image : Image) (ckpt : Checkpoint) → ckpt.geom ≡ g.now → ckpt.summary ≡ summary.now → HasTable ckpt → IsRightFault image ckpt fault) }
     ensures no_read { result ≢ Err MountFault.Read }
 {
     let nids = nids_of(alloc, summary)?;

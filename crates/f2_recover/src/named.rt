@@ -48,21 +48,21 @@ pub(crate) fn take_dent<D: Disk>(
     dent: Dent,
 ) -> Result<(), MountFault>
     requires device { g.now.blocks ≤ (D.meter disk.old).blocks }
-    requires extent { walk.old.zones.extent ≡ g.now }
+    requires geom { walk.old.zones.geom ≡ g.now }
     requires queue { IsQueue g.now walk.old.rows walk.old.order.items }
     requires fit { IsFitDent dent }
     requires depth { depth ≤ 17 }
     requires below { 1 ≤ depth }
-    ensures walked { OnOk result ((image : Image) (point : Checkpoint) (done : set.FinSet nat_cmp) (places : List (ℕ × ℕ)) (dents : List Dent) (count : ℕ) → IsRead (D.contents disk.old) g.now table.now image point
-        → set.contains done directory ≡ false → AreDentsAt image point directory places dents → count < length dents → slice_index_or dents count no_dent ≡ dent → IsBelow image point (depth - 1) directory
-        → AreFirstNames dents count names.old → IsWalkedTo image point done directory places count walk.old
-        → IsWalkedTo image point done directory places (count + 1) walk.new × AreFirstNames dents (count + 1) names.new) }
-    ensures extent { OnOk result (walk.new.zones.extent ≡ g.now) }
+    ensures walked { OnOk result ((image : Image) (ckpt : Checkpoint) (done : set.FinSet nat_cmp) (places : List (ℕ × ℕ)) (dents : List Dent) (count : ℕ) → IsRead (D.contents disk.old) g.now table.now image ckpt
+        → set.contains done directory ≡ false → AreDentsAt image ckpt directory places dents → count < length dents → slice_index_or dents count no_dent ≡ dent → IsBelow image ckpt (depth - 1) directory
+        → AreFirstNames dents count names.old → IsWalkedTo image ckpt done directory places count walk.old
+        → IsWalkedTo image ckpt done directory places (count + 1) walk.new × AreFirstNames dents (count + 1) names.new) }
+    ensures geom { OnOk result (walk.new.zones.geom ≡ g.now) }
     ensures longer { OnOk result (IsLonger walk.old walk.new) }
     ensures queue { OnOk result (IsQueue g.now walk.new.rows walk.new.order.items) }
-    ensures fault { IfErr result (λ fault. (image : Image) (point : Checkpoint) (done : set.FinSet nat_cmp) (places : List (ℕ × ℕ)) (dents : List Dent) (count : ℕ) → IsRead (D.contents disk.old) g.now table.now image point
-        → set.contains done directory ≡ false → AreDentsAt image point directory places dents → count < length dents → slice_index_or dents count no_dent ≡ dent → IsBelow image point (depth - 1) directory
-        → AreFirstNames dents count names.old → IsWalkedTo image point done directory places count walk.old → IsRightFault image point fault) }
+    ensures fault { IfErr result (λ fault. (image : Image) (ckpt : Checkpoint) (done : set.FinSet nat_cmp) (places : List (ℕ × ℕ)) (dents : List Dent) (count : ℕ) → IsRead (D.contents disk.old) g.now table.now image ckpt
+        → set.contains done directory ≡ false → AreDentsAt image ckpt directory places dents → count < length dents → slice_index_or dents count no_dent ≡ dent → IsBelow image ckpt (depth - 1) directory
+        → AreFirstNames dents count names.old → IsWalkedTo image ckpt done directory places count walk.old → IsRightFault image ckpt fault) }
     ensures reads { OnlyReads (D.contents disk.old) (D.meter disk.old) (D.contents disk.new) (D.meter disk.new) }
     ensures cause { result ≡ Err MountFault.Read → HasFailed (D.meter disk.old) (D.meter disk.new) }
 {
@@ -94,17 +94,17 @@ fn read_named<D: Disk>(
     dent: &Dent,
 ) -> Result<File, MountFault>
     requires device { g.now.blocks ≤ (D.meter disk.old).blocks }
-    requires extent { zones.old.extent ≡ g.now }
-    ensures file { IfOk result (λ file. (image : Image) (point : Checkpoint) (inos : set.FinSet nat_cmp) → IsRead (D.contents disk.old) g.now table.now image point → IsReached image point dent.now.ino
-        → AreTaken image point inos dent.now.ino 0 0 zones.old → IsFileRead image point inos dent.now.ino zones.new file) }
-    ensures ends { IfOk result (λ file. (image : Image) (point : Checkpoint) (inos : set.FinSet nat_cmp) → IsRead (D.contents disk.old) g.now table.now image point → IsReached image point dent.now.ino
-        → AreTaken image point inos dent.now.ino 0 0 zones.old → file.kind ≡ Regular → (page at : ℕ) → IsBasePage image point dent.now.ino page at → ¬ (IsPastSize image file.size page at)) }
+    requires geom { zones.old.geom ≡ g.now }
+    ensures file { IfOk result (λ file. (image : Image) (ckpt : Checkpoint) (inos : set.FinSet nat_cmp) → IsRead (D.contents disk.old) g.now table.now image ckpt → IsReached image ckpt dent.now.ino
+        → AreTaken image ckpt inos dent.now.ino 0 0 zones.old → IsFileRead image ckpt inos dent.now.ino zones.new file) }
+    ensures ends { IfOk result (λ file. (image : Image) (ckpt : Checkpoint) (inos : set.FinSet nat_cmp) → IsRead (D.contents disk.old) g.now table.now image ckpt → IsReached image ckpt dent.now.ino
+        → AreTaken image ckpt inos dent.now.ino 0 0 zones.old → file.kind ≡ Regular → (page at : ℕ) → IsBasePage image ckpt dent.now.ino page at → ¬ (IsPastSize image file.size page at)) }
     ensures kind { IfOk result (λ file. file.kind ≡ dent.now.kind) }
     ensures depth { IfOk result (λ file. depth ≤ most_depth file.kind) }
     ensures within { OnOk result (dent.now.ino < nid_limit g.now) }
-    ensures extent { OnOk result (zones.new.extent ≡ g.now) }
-    ensures fault { IfErr result (λ fault. (image : Image) (point : Checkpoint) (inos : set.FinSet nat_cmp) → IsRead (D.contents disk.old) g.now table.now image point → IsReached image point dent.now.ino
-        → IsNamedAs image point dent.now.ino dent.now.kind → IsBelow image point depth dent.now.ino → AreTaken image point inos dent.now.ino 0 0 zones.old → IsRightFault image point fault) }
+    ensures geom { OnOk result (zones.new.geom ≡ g.now) }
+    ensures fault { IfErr result (λ fault. (image : Image) (ckpt : Checkpoint) (inos : set.FinSet nat_cmp) → IsRead (D.contents disk.old) g.now table.now image ckpt → IsReached image ckpt dent.now.ino
+        → IsNamedAs image ckpt dent.now.ino dent.now.kind → IsBelow image ckpt depth dent.now.ino → AreTaken image ckpt inos dent.now.ino 0 0 zones.old → IsRightFault image ckpt fault) }
     ensures reads { OnlyReads (D.contents disk.old) (D.meter disk.old) (D.contents disk.new) (D.meter disk.new) }
     ensures cause { result ≡ Err MountFault.Read → HasFailed (D.meter disk.old) (D.meter disk.new) }
 {

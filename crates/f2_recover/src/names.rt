@@ -28,10 +28,10 @@ pub(crate) fn read_names<D: Disk>(
     blocks: &[PageAt],
 ) -> Result<Vec<Dent>, MountFault>
     requires device { g.now.blocks ≤ (D.meter disk.old).blocks }
-    ensures dents { IfOk result (λ dents. (image : Image) (point : Checkpoint) (directory : ℕ) → Tells (D.contents disk.old) image → AreBlocksOf image point directory blocks.now → AreDents image point directory dents.items) }
+    ensures dents { IfOk result (λ dents. (image : Image) (ckpt : Checkpoint) (directory : ℕ) → Tells (D.contents disk.old) image → AreBlocksOf image ckpt directory blocks.now → AreDents image ckpt directory dents.items) }
     ensures fit { IfOk result (λ dents. AreFit dents.items) }
-    ensures fault { IfErr result (λ fault. (image : Image) (point : Checkpoint) (directory : ℕ) → Tells (D.contents disk.old) image → HasTable point → point.extent ≡ g.now → IsReached image point directory
-        → AreBlocksOf image point directory blocks.now → IsRightFault image point fault) }
+    ensures fault { IfErr result (λ fault. (image : Image) (ckpt : Checkpoint) (directory : ℕ) → Tells (D.contents disk.old) image → HasTable ckpt → ckpt.geom ≡ g.now → IsReached image ckpt directory
+        → AreBlocksOf image ckpt directory blocks.now → IsRightFault image ckpt fault) }
     ensures reads { OnlyReads (D.contents disk.old) (D.meter disk.old) (D.contents disk.new) (D.meter disk.new) }
     ensures cause { result ≡ Err MountFault.Read → HasFailed (D.meter disk.old) (D.meter disk.new) }
 {
@@ -47,8 +47,8 @@ pub(crate) fn read_names<D: Disk>(
 fn add_dents(dents: &mut Vec<Dent>, found: Vec<Dent>) -> Result<(), MountFault>
     ensures dents { OnOk result (dents.new.items ≡ dents.old.items ++ found.items) }
     ensures fit { OnOk result (AreFit found.items) }
-    ensures fault { IfErr result (λ fault. (image : Image) (point : Checkpoint) (directory : ℕ) → HasTable point → IsReached image point directory
-        → All (λ dent. HasDentry image point directory (dentry_of dent)) found.items → IsRightFault image point fault) }
+    ensures fault { IfErr result (λ fault. (image : Image) (ckpt : Checkpoint) (directory : ℕ) → HasTable ckpt → IsReached image ckpt directory
+        → All (λ dent. HasDentry image ckpt directory (dentry_of dent)) found.items → IsRightFault image ckpt fault) }
     ensures no_read { result ≢ Err MountFault.Read }
 {
     for dent in found {

@@ -5,7 +5,7 @@ ghost use Rattle.std.specs.FinSet as set;
 ghost use Rattle.f2_disk.specs.Contents.{Contents};
 ghost use Rattle.f2_disk.specs.Meter.{HasFailed};
 ghost use Rattle.f2_format.specs.Footer.{footer_nid, footer_ino, footer_offset};
-ghost use Rattle.f2_format.specs.Geometry.{Extent, is_in_node, nid_limit};
+ghost use Rattle.f2_format.specs.Geometry.{ImageGeometry, is_in_node, nid_limit};
 ghost use Rattle.f2_model.specs.Tree.{ROOT as root};
 ghost use Rattle.f2_image.specs.Images.{Image};
 ghost use Rattle.f2_image.specs.Packs.{Checkpoint};
@@ -64,7 +64,7 @@ pub struct FileNodes {
 
 /// The address that a table has for a nid; 0 where it has none.
 pub(crate) fn address_of(table: &[u32], nid: u32) -> u32
-    ensures { (held : Option Contents) (extent : Extent) (image : Image) (point : Checkpoint) → IsRead held extent table.now image point → node_address image point nid ≡ result }
+    ensures { (held : Option Contents) (geom : ImageGeometry) (image : Image) (ckpt : Checkpoint) → IsRead held geom table.now image ckpt → node_address image ckpt nid ≡ result }
 {
     if nid == 0 || nid as usize >= table.len() {
         return 0;
@@ -74,14 +74,14 @@ pub(crate) fn address_of(table: &[u32], nid: u32) -> u32
 
 /// Takes the address of a node, and gives it.
 fn take_node(table: &[u32], zones: &mut Zones, node: NodeName) -> Result<u32, MountFault>
-    ensures address { IfOk result (λ at. (held : Option Contents) (image : Image) (point : Checkpoint) → IsRead held zones.old.extent table.now image point → node_address image point node.nid ≡ at) }
+    ensures address { IfOk result (λ at. (held : Option Contents) (image : Image) (ckpt : Checkpoint) → IsRead held zones.old.geom table.now image ckpt → node_address image ckpt node.nid ≡ at) }
     ensures least { IfOk result (λ _. (4 ≤ node.nid) ⊎ ((node.ino ≡ root) × (node.offset ≡ 0))) }
-    ensures inside { IfOk result (λ at. is_in_node zones.old.extent at ≡ true) }
-    ensures within { OnOk result (node.nid < nid_limit zones.old.extent) }
+    ensures inside { IfOk result (λ at. is_in_node zones.old.geom at ≡ true) }
+    ensures within { OnOk result (node.nid < nid_limit zones.old.geom) }
     ensures free { IfOk result (λ at. set.contains zones.old.nodes at ≡ false) }
     ensures taken { IfOk result (λ at. zones.new ≡ record zones.old { nodes = set.insert zones.old.nodes at; nids = set.insert zones.old.nids node.nid }) }
-    ensures fault { IfErr result (λ fault. (held : Option Contents) (image : Image) (point : Checkpoint) (inos : set.FinSet nat_cmp) (page : ℕ) → IsRead held zones.old.extent table.now image point
-        → IsNode image point node.ino node.offset node.nid → AreTaken image point inos node.ino node.offset page zones.old → IsRightFault image point fault) }
+    ensures fault { IfErr result (λ fault. (held : Option Contents) (image : Image) (ckpt : Checkpoint) (inos : set.FinSet nat_cmp) (page : ℕ) → IsRead held zones.old.geom table.now image ckpt
+        → IsNode image ckpt node.ino node.offset node.nid → AreTaken image ckpt inos node.ino node.offset page zones.old → IsRightFault image ckpt fault) }
     ensures no_read { result ≢ Err MountFault.Read }
 {
     if node.nid < LEAST_NID && (node.ino != ROOT || node.offset != 0) {
@@ -119,14 +119,14 @@ pub(crate) fn read_node<D: Disk>(
     node: NodeName,
     block: &mut Block,
 ) -> Result<(), MountFault>
-    requires device { zones.old.extent.blocks ≤ (D.meter disk.old).blocks }
-    ensures there { OnOk result ((image : Image) (point : Checkpoint) → IsRead (D.contents disk.old) zones.old.extent table.now image point → node_of image point node.nid ≡ Some block.new) }
-    ensures seen { OnOk result ((image : Image) (point : Checkpoint) (inos : set.FinSet nat_cmp) (page : ℕ) → IsRead (D.contents disk.old) zones.old.extent table.now image point
-        → IsNode image point node.ino node.offset node.nid → IsSeen image point inos node.ino node.offset page zones.old file.old → IsSeen image point inos node.ino (node.offset + 1) page zones.new file.new) }
-    ensures within { OnOk result (node.nid < nid_limit zones.old.extent) }
-    ensures extent { OnOk result (zones.new.extent ≡ zones.old.extent) }
-    ensures fault { IfErr result (λ fault. (image : Image) (point : Checkpoint) (inos : set.FinSet nat_cmp) (page : ℕ) → IsRead (D.contents disk.old) zones.old.extent table.now image point
-        → IsNode image point node.ino node.offset node.nid → IsSeen image point inos node.ino node.offset page zones.old file.old → IsRightFault image point fault) }
+    requires device { zones.old.geom.blocks ≤ (D.meter disk.old).blocks }
+    ensures there { OnOk result ((image : Image) (ckpt : Checkpoint) → IsRead (D.contents disk.old) zones.old.geom table.now image ckpt → node_of image ckpt node.nid ≡ Some block.new) }
+    ensures seen { OnOk result ((image : Image) (ckpt : Checkpoint) (inos : set.FinSet nat_cmp) (page : ℕ) → IsRead (D.contents disk.old) zones.old.geom table.now image ckpt
+        → IsNode image ckpt node.ino node.offset node.nid → IsSeen image ckpt inos node.ino node.offset page zones.old file.old → IsSeen image ckpt inos node.ino (node.offset + 1) page zones.new file.new) }
+    ensures within { OnOk result (node.nid < nid_limit zones.old.geom) }
+    ensures geom { OnOk result (zones.new.geom ≡ zones.old.geom) }
+    ensures fault { IfErr result (λ fault. (image : Image) (ckpt : Checkpoint) (inos : set.FinSet nat_cmp) (page : ℕ) → IsRead (D.contents disk.old) zones.old.geom table.now image ckpt
+        → IsNode image ckpt node.ino node.offset node.nid → IsSeen image ckpt inos node.ino node.offset page zones.old file.old → IsRightFault image ckpt fault) }
     ensures reads { OnlyReads (D.contents disk.old) (D.meter disk.old) (D.contents disk.new) (D.meter disk.new) }
     ensures cause { result ≡ Err MountFault.Read → HasFailed (D.meter disk.old) (D.meter disk.new) }
 {

@@ -22,11 +22,11 @@ pub(crate) fn add_page(
     at: u32,
 ) -> Result<(), MountFault>
     requires { page < page_limit }
-    ensures seen { OnOk result ((image : Image) (point : Checkpoint) (inos : set.FinSet nat_cmp) (ino offset : ℕ) → point.extent ≡ zones.old.extent → IsPageOf image point ino page at
-        → IsSeen image point inos ino offset page zones.old file.old → IsSeen image point inos ino offset (page + 1) zones.new file.new) }
-    ensures extent { OnOk result (zones.new.extent ≡ zones.old.extent) }
-    ensures fault { IfErr result (λ fault. (image : Image) (point : Checkpoint) (inos : set.FinSet nat_cmp) (ino offset : ℕ) → point.extent ≡ zones.old.extent → HasTable point → IsPageOf image point ino page at
-        → IsSeen image point inos ino offset page zones.old file.old → IsRightFault image point fault) }
+    ensures seen { OnOk result ((image : Image) (ckpt : Checkpoint) (inos : set.FinSet nat_cmp) (ino offset : ℕ) → ckpt.geom ≡ zones.old.geom → IsPageOf image ckpt ino page at
+        → IsSeen image ckpt inos ino offset page zones.old file.old → IsSeen image ckpt inos ino offset (page + 1) zones.new file.new) }
+    ensures geom { OnOk result (zones.new.geom ≡ zones.old.geom) }
+    ensures fault { IfErr result (λ fault. (image : Image) (ckpt : Checkpoint) (inos : set.FinSet nat_cmp) (ino offset : ℕ) → ckpt.geom ≡ zones.old.geom → HasTable ckpt → IsPageOf image ckpt ino page at
+        → IsSeen image ckpt inos ino offset page zones.old file.old → IsRightFault image ckpt fault) }
     ensures no_read { result ≢ Err MountFault.Read }
 {
     if at == 0 {

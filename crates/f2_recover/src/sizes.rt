@@ -32,10 +32,10 @@ pub(crate) fn check_size<D: Disk>(
     file: &File,
 ) -> Result<(), MountFault>
     requires device { g.now.blocks ≤ (D.meter disk.old).blocks }
-    ensures right { OnOk result ((image : Image) (point : Checkpoint) (inos : set.FinSet nat_cmp) (taken : Taken) → Tells (D.contents disk.old) image → IsFileRead image point inos ino taken file.now
-        → (page at : ℕ) → IsBasePage image point ino page at → ¬ (IsPastSize image file.now.size page at)) }
-    ensures fault { IfErr result (λ fault. (image : Image) (point : Checkpoint) (inos : set.FinSet nat_cmp) (taken : Taken) → Tells (D.contents disk.old) image → HasTable point → point.extent ≡ g.now
-        → file.now.kind ≡ Regular → IsFileRead image point inos ino taken file.now → IsRightFault image point fault) }
+    ensures right { OnOk result ((image : Image) (ckpt : Checkpoint) (inos : set.FinSet nat_cmp) (taken : Taken) → Tells (D.contents disk.old) image → IsFileRead image ckpt inos ino taken file.now
+        → (page at : ℕ) → IsBasePage image ckpt ino page at → ¬ (IsPastSize image file.now.size page at)) }
+    ensures fault { IfErr result (λ fault. (image : Image) (ckpt : Checkpoint) (inos : set.FinSet nat_cmp) (taken : Taken) → Tells (D.contents disk.old) image → HasTable ckpt → ckpt.geom ≡ g.now
+        → file.now.kind ≡ Regular → IsFileRead image ckpt inos ino taken file.now → IsRightFault image ckpt fault) }
     ensures reads { OnlyReads (D.contents disk.old) (D.meter disk.old) (D.contents disk.new) (D.meter disk.new) }
     ensures cause { result ≡ Err MountFault.Read → HasFailed (D.meter disk.old) (D.meter disk.new) }
 {

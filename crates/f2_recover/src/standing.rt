@@ -19,7 +19,7 @@ const MOST_DEPTH: u32 = 15;
 /// Whether the root is a directory.
 pub(crate) fn check_root(kind: Kind) -> Result<(), MountFault>
     ensures directory { OnOk result (kind ≡ Directory) }
-    ensures fault { IfErr result (λ fault. (image : Image) (point : Checkpoint) (inode : List ℕ) → HasTable point → IsInode image point root kind inode → IsRightFault image point fault) }
+    ensures fault { IfErr result (λ fault. (image : Image) (ckpt : Checkpoint) (inode : List ℕ) → HasTable ckpt → IsInode image ckpt root kind inode → IsRightFault image ckpt fault) }
     ensures no_read { result ≢ Err MountFault.Read }
 {
     match kind {
@@ -31,7 +31,7 @@ pub(crate) fn check_root(kind: Kind) -> Result<(), MountFault>
 /// Whether a file is of the kind that its dentry tells.
 pub(crate) fn check_kind(ino: u32, told: Kind, kind: Kind) -> Result<(), MountFault>
     ensures same { OnOk result (kind ≡ told) }
-    ensures fault { IfErr result (λ fault. (image : Image) (point : Checkpoint) (inode : List ℕ) → HasTable point → IsInode image point ino kind inode → IsNamedAs image point ino told → IsRightFault image point fault) }
+    ensures fault { IfErr result (λ fault. (image : Image) (ckpt : Checkpoint) (inode : List ℕ) → HasTable ckpt → IsInode image ckpt ino kind inode → IsNamedAs image ckpt ino told → IsRightFault image ckpt fault) }
     ensures no_read { result ≢ Err MountFault.Read }
 {
     if !is_same(told, kind) {
@@ -54,7 +54,7 @@ fn is_same(a: Kind, b: Kind) -> bool
 /// Whether a file of a kind may stand so many names below the root.
 pub(crate) fn check_depth(ino: u32, depth: u32, kind: Kind) -> Result<(), MountFault>
     ensures depth { OnOk result (depth ≤ most kind) }
-    ensures fault { IfErr result (λ fault. (image : Image) (point : Checkpoint) (inode : List ℕ) → HasTable point → IsInode image point ino kind inode → IsBelow image point depth ino → IsRightFault image point fault) }
+    ensures fault { IfErr result (λ fault. (image : Image) (ckpt : Checkpoint) (inode : List ℕ) → HasTable ckpt → IsInode image ckpt ino kind inode → IsBelow image ckpt depth ino → IsRightFault image ckpt fault) }
     ensures no_read { result ≢ Err MountFault.Read }
 {
     if depth > most_depth(kind) {

@@ -10,7 +10,7 @@ ghost use Rattle.f2_image.specs.Packs.{Checkpoint};
 ghost use Rattle.f2_recover.specs.Told.{Tells, OnlyReads};
 ghost use Rattle.f2_recover.specs.Faults.{IsRightFault};
 ghost use Rattle.f2_recover.specs.Reading.{IsRead};
-ghost use Rattle.f2_recover.specs.Tables.{IsPointWith, HasEntriesMore};
+ghost use Rattle.f2_recover.specs.Tables.{IsCkptWith, HasEntriesMore};
 
 use crate::blocks::read_block;
 use crate::faults::MountFault;
@@ -34,9 +34,9 @@ pub(crate) fn read_table<D: Disk>(
     journal: &Journal,
 ) -> Result<Vec<u32>, MountFault>
     requires device { g.now.blocks ≤ (D.meter disk.old).blocks }
-    ensures table { IfOk result (λ table. (image : Image) (point : Checkpoint) → Tells (D.contents disk.old) image → IsPointWith g.now bitmap.now journal.now point → IsRead (D.contents disk.old) g.now table.items image point) }
+    ensures table { IfOk result (λ table. (image : Image) (ckpt : Checkpoint) → Tells (D.contents disk.old) image → IsCkptWith g.now bitmap.now journal.now ckpt → IsRead (D.contents disk.old) g.now table.items image ckpt) }
     ensures size { IfOk result (λ table. length table.items ≡ ENTRIES_A_NAT_BLOCK * g.now.nat) }
-    ensures fault { IfErr result (λ fault. (image : Image) (point : Checkpoint) → IsRightFault image point fault) }
+    ensures fault { IfErr result (λ fault. (image : Image) (ckpt : Checkpoint) → IsRightFault image ckpt fault) }
     ensures reads { OnlyReads (D.contents disk.old) (D.meter disk.old) (D.contents disk.new) (D.meter disk.new) }
     ensures cause { result ≡ Err MountFault.Read → HasFailed (D.meter disk.old) (D.meter disk.new) }
 {

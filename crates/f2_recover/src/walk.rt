@@ -50,10 +50,10 @@ pub(crate) fn walk_base<D: Disk>(
     table: &[u32],
 ) -> Result<Walk, MountFault>
     requires device { g.now.blocks ≤ (D.meter disk.old).blocks }
-    ensures walked { IfOk result (λ walk. (image : Image) (point : Checkpoint) → IsRead (D.contents disk.old) g.now table.now image point → IsWalked image point walk) }
-    ensures extent { IfOk result (λ walk. walk.zones.extent ≡ g.now) }
+    ensures walked { IfOk result (λ walk. (image : Image) (ckpt : Checkpoint) → IsRead (D.contents disk.old) g.now table.now image ckpt → IsWalked image ckpt walk) }
+    ensures geom { IfOk result (λ walk. walk.zones.geom ≡ g.now) }
     ensures queue { IfOk result (λ walk. IsQueue g.now walk.rows walk.order.items) }
-    ensures fault { IfErr result (λ fault. (image : Image) (point : Checkpoint) → IsRead (D.contents disk.old) g.now table.now image point → IsRightFault image point fault) }
+    ensures fault { IfErr result (λ fault. (image : Image) (ckpt : Checkpoint) → IsRead (D.contents disk.old) g.now table.now image ckpt → IsRightFault image ckpt fault) }
     ensures reads { OnlyReads (D.contents disk.old) (D.meter disk.old) (D.contents disk.new) (D.meter disk.new) }
     ensures cause { result ≡ Err MountFault.Read → HasFailed (D.meter disk.old) (D.meter disk.new) }
 {
@@ -75,10 +75,10 @@ fn begin<D: Disk>(
     table: &[u32],
 ) -> Result<Walk, MountFault>
     requires device { g.now.blocks ≤ (D.meter disk.old).blocks }
-    ensures walked { IfOk result (λ walk. (image : Image) (point : Checkpoint) → IsRead (D.contents disk.old) g.now table.now image point → IsWalkedTo image point set.empty 0 [] 0 walk) }
-    ensures extent { IfOk result (λ walk. walk.zones.extent ≡ g.now) }
+    ensures walked { IfOk result (λ walk. (image : Image) (ckpt : Checkpoint) → IsRead (D.contents disk.old) g.now table.now image ckpt → IsWalkedTo image ckpt set.empty 0 [] 0 walk) }
+    ensures geom { IfOk result (λ walk. walk.zones.geom ≡ g.now) }
     ensures queue { IfOk result (λ walk. IsQueue g.now walk.rows walk.order.items) }
-    ensures fault { IfErr result (λ fault. (image : Image) (point : Checkpoint) → IsRead (D.contents disk.old) g.now table.now image point → IsRightFault image point fault) }
+    ensures fault { IfErr result (λ fault. (image : Image) (ckpt : Checkpoint) → IsRead (D.contents disk.old) g.now table.now image ckpt → IsRightFault image ckpt fault) }
     ensures reads { OnlyReads (D.contents disk.old) (D.meter disk.old) (D.contents disk.new) (D.meter disk.new) }
     ensures cause { result ≡ Err MountFault.Read → HasFailed (D.meter disk.old) (D.meter disk.new) }
 {
@@ -111,16 +111,16 @@ fn walk_row<D: Disk>(
     ino: u32,
 ) -> Result<(), MountFault>
     requires device { g.now.blocks ≤ (D.meter disk.old).blocks }
-    requires extent { walk.old.zones.extent ≡ g.now }
+    requires geom { walk.old.zones.geom ≡ g.now }
     requires queue { IsQueue g.now walk.old.rows walk.old.order.items }
-    ensures walked { OnOk result ((image : Image) (point : Checkpoint) (done : set.FinSet nat_cmp) → IsRead (D.contents disk.old) g.now table.now image point → set.contains done ino ≡ false
-        → IsWalkedTo image point done 0 [] 0 walk.old → HasRow walk.old.rows ino (λ row. row.file.kind ≡ Directory) → IsWalkedTo image point (set.insert done ino) 0 [] 0 walk.new) }
+    ensures walked { OnOk result ((image : Image) (ckpt : Checkpoint) (done : set.FinSet nat_cmp) → IsRead (D.contents disk.old) g.now table.now image ckpt → set.contains done ino ≡ false
+        → IsWalkedTo image ckpt done 0 [] 0 walk.old → HasRow walk.old.rows ino (λ row. row.file.kind ≡ Directory) → IsWalkedTo image ckpt (set.insert done ino) 0 [] 0 walk.new) }
     ensures file { OnOk result ((row : BaseRow) → map.get walk.old.rows ino ≡ Some row → row.file.kind ≢ Directory → walk.new ≡ walk.old) }
-    ensures extent { OnOk result (walk.new.zones.extent ≡ g.now) }
+    ensures geom { OnOk result (walk.new.zones.geom ≡ g.now) }
     ensures queue { OnOk result (IsQueue g.now walk.new.rows walk.new.order.items) }
     ensures longer { OnOk result (IsLonger walk.old walk.new) }
-    ensures fault { IfErr result (λ fault. (image : Image) (point : Checkpoint) (done : set.FinSet nat_cmp) → IsRead (D.contents disk.old) g.now table.now image point → set.contains done ino ≡ false
-        → IsWalkedTo image point done 0 [] 0 walk.old → IsRightFault image point fault) }
+    ensures fault { IfErr result (λ fault. (image : Image) (ckpt : Checkpoint) (done : set.FinSet nat_cmp) → IsRead (D.contents disk.old) g.now table.now image ckpt → set.contains done ino ≡ false
+        → IsWalkedTo image ckpt done 0 [] 0 walk.old → IsRightFault image ckpt fault) }
     ensures reads { OnlyReads (D.contents disk.old) (D.meter disk.old) (D.contents disk.new) (D.meter disk.new) }
     ensures cause { result ≡ Err MountFault.Read → HasFailed (D.meter disk.old) (D.meter disk.new) }
 {
@@ -149,19 +149,19 @@ fn take_dents<D: Disk>(
     dents: Vec<Dent>,
 ) -> Result<Dir, MountFault>
     requires device { g.now.blocks ≤ (D.meter disk.old).blocks }
-    requires extent { walk.old.zones.extent ≡ g.now }
+    requires geom { walk.old.zones.geom ≡ g.now }
     requires queue { IsQueue g.now walk.old.rows walk.old.order.items }
     requires fit { AreFit dents.items }
     requires below { 1 ≤ depth }
     requires depth { depth ≤ 17 }
-    ensures walked { IfOk result (λ names. (image : Image) (point : Checkpoint) (done : set.FinSet nat_cmp) (places : List (ℕ × ℕ)) → IsRead (D.contents disk.old) g.now table.now image point → set.contains done directory ≡ false
-        → AreDentsAt image point directory places dents.items → IsBelow image point (depth - 1) directory → IsWalkedTo image point done directory places 0 walk.old
-        → IsWalkedTo image point done directory places (length dents.items) walk.new × AreFirstNames dents.items (length dents.items) names) }
-    ensures extent { OnOk result (walk.new.zones.extent ≡ g.now) }
+    ensures walked { IfOk result (λ names. (image : Image) (ckpt : Checkpoint) (done : set.FinSet nat_cmp) (places : List (ℕ × ℕ)) → IsRead (D.contents disk.old) g.now table.now image ckpt → set.contains done directory ≡ false
+        → AreDentsAt image ckpt directory places dents.items → IsBelow image ckpt (depth - 1) directory → IsWalkedTo image ckpt done directory places 0 walk.old
+        → IsWalkedTo image ckpt done directory places (length dents.items) walk.new × AreFirstNames dents.items (length dents.items) names) }
+    ensures geom { OnOk result (walk.new.zones.geom ≡ g.now) }
     ensures queue { OnOk result (IsQueue g.now walk.new.rows walk.new.order.items) }
     ensures longer { OnOk result (IsLonger walk.old walk.new) }
-    ensures fault { IfErr result (λ fault. (image : Image) (point : Checkpoint) (done : set.FinSet nat_cmp) (places : List (ℕ × ℕ)) → IsRead (D.contents disk.old) g.now table.now image point → set.contains done directory ≡ false
-        → AreDentsAt image point directory places dents.items → IsBelow image point (depth - 1) directory → IsWalkedTo image point done directory places 0 walk.old → IsRightFault image point fault) }
+    ensures fault { IfErr result (λ fault. (image : Image) (ckpt : Checkpoint) (done : set.FinSet nat_cmp) (places : List (ℕ × ℕ)) → IsRead (D.contents disk.old) g.now table.now image ckpt → set.contains done directory ≡ false
+        → AreDentsAt image ckpt directory places dents.items → IsBelow image ckpt (depth - 1) directory → IsWalkedTo image ckpt done directory places 0 walk.old → IsRightFault image ckpt fault) }
     ensures reads { OnlyReads (D.contents disk.old) (D.meter disk.old) (D.contents disk.new) (D.meter disk.new) }
     ensures cause { result ≡ Err MountFault.Read → HasFailed (D.meter disk.old) (D.meter disk.new) }
 {

@@ -37,7 +37,7 @@ impl Model for Zones {
 
     ghost coded = { taken_code };
 
-    ghost view = { λ z. record { extent = z.geometry; nodes = z.nodes.members; pages = z.pages.members; nids = z.nids.members } };
+    ghost view = { λ z. record { geom = z.geometry; nodes = z.nodes.members; pages = z.pages.members; nids = z.nids.members } };
 
     ghost invariant = { λ z. AreZones z.geometry z.nodes z.pages z.nids };
 }
@@ -45,7 +45,7 @@ impl Model for Zones {
 impl Zones {
     /// No address is in use.
     pub(crate) fn new(alloc: Global, g: &Geometry) -> Result<Self, AllocError>
-        ensures { IfOk result (λ zones. zones ≡ record { extent = g.now; nodes = set.empty; pages = set.empty; nids = set.empty }) }
+        ensures { IfOk result (λ zones. zones ≡ record { geom = g.now; nodes = set.empty; pages = set.empty; nids = set.empty }) }
     {
         let node_first = g.node_first();
         let data_first = g.data_first();
@@ -62,11 +62,11 @@ impl Zones {
 
     /// Takes an address for the node with a nid, unless it isn't in the node zone or the nid isn't in the table, or it was taken before.
     pub(crate) fn take_node(&mut self, at: u32, nid: u32) -> Result<(), Unfit>
-        ensures inside { OnOk result (is_in_node self.old.extent at ≡ true) }
-        ensures within { OnOk result (nid < nid_limit self.old.extent) }
+        ensures inside { OnOk result (is_in_node self.old.geom at ≡ true) }
+        ensures within { OnOk result (nid < nid_limit self.old.geom) }
         ensures free { OnOk result (set.contains self.old.nodes at ≡ false) }
         ensures taken { OnOk result (self.new ≡ record self.old { nodes = set.insert self.old.nodes at; nids = set.insert self.old.nids nid }) }
-        ensures unfit { IfErr result (IsUnfit (is_in_node self.old.extent at && nat_lt nid (nid_limit self.old.extent)) (set.contains self.old.nodes at)) }
+        ensures unfit { IfErr result (IsUnfit (is_in_node self.old.geom at && nat_lt nid (nid_limit self.old.geom)) (set.contains self.old.nodes at)) }
     {
         if !self.geometry.in_node(at) || nid >= ENTRIES_A_NAT_BLOCK * self.geometry.nat() {
             return Err(Unfit::Outside);
@@ -81,10 +81,10 @@ impl Zones {
 
     /// Takes an address for a page, unless it isn't in the data zone, or was taken before.
     pub(crate) fn take_page(&mut self, at: u32) -> Result<(), Unfit>
-        ensures inside { OnOk result (is_in_data self.old.extent at ≡ true) }
+        ensures inside { OnOk result (is_in_data self.old.geom at ≡ true) }
         ensures free { OnOk result (set.contains self.old.pages at ≡ false) }
         ensures taken { OnOk result (self.new ≡ record self.old { pages = set.insert self.old.pages at }) }
-        ensures unfit { IfErr result (IsUnfit (is_in_data self.old.extent at) (set.contains self.old.pages at)) }
+        ensures unfit { IfErr result (IsUnfit (is_in_data self.old.geom at) (set.contains self.old.pages at)) }
     {
         if !self.geometry.in_data(at) {
             return Err(Unfit::Outside);
@@ -112,7 +112,7 @@ impl Zones {
 
     /// The least number that no node can have as its nid.
     pub fn nid_limit(&self) -> u32
-        ensures { result ≡ nid_limit self.now.extent }
+        ensures { result ≡ nid_limit self.now.geom }
     {
         ENTRIES_A_NAT_BLOCK * self.geometry.nat()
     }

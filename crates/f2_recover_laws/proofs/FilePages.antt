@@ -18,22 +18,22 @@ use Rattle.f2_recover.specs.declared.nodes.FileNodes.{FileNodes}
 some_there : (image : Image) (at : ℕ) → at ≢ 0 → block_there image at ≡ Some (block_at image at)
 some_there image at some = ap (λ b. cond b None (Some (block_at image at))) (ne_eqb at 0 some)
 
-module _ (image : Image) (point : Checkpoint) (ino : ℕ) (kind : Kind) (inode : List ℕ) (reached : IsReached image point ino) (own : IsInode image point ino kind inode) (pages : PageMap) (are : ArePages image point inode pages)
-    (within : (page : ℕ) (bytes : List ℕ) → map.get pages page ≡ Some bytes → page < page_limit) (file : FileNodes) (part : IsPart image point ino node_limit page_limit file) where
+module _ (image : Image) (ckpt : Checkpoint) (ino : ℕ) (kind : Kind) (inode : List ℕ) (reached : IsReached image ckpt ino) (own : IsInode image ckpt ino kind inode) (pages : PageMap) (are : ArePages image ckpt inode pages)
+    (within : (page : ℕ) (bytes : List ℕ) → map.get pages page ≡ Some bytes → page < page_limit) (file : FileNodes) (part : IsPart image ckpt ino node_limit page_limit file) where
   some_page : (page at : ℕ) → map.get file.pages.pages page ≡ Some at → map.get pages page ≡ Some (block_at image at)
   some_page page at there =
       let base = part.pages page at there in
       let same : inode ≡ base.is.inode = same_Some inode base.is.inode (sym own.there ∙ base.is.is.there) in
-      are page base.within ∙ ap (block_there image) (ap (λ n. page_address image point n page) same ∙ base.is.address) ∙ some_there image at base.is.there
+      are page base.within ∙ ap (block_there image) (ap (λ n. page_address image ckpt n page) same ∙ base.is.address) ∙ some_there image at base.is.there
 
   no_page_within : (page : ℕ) → map.get file.pages.pages page ≡ None → page < page_limit → map.get pages page ≡ None
-  no_page_within page none small = are page small ∙ by (cases_eq (page_address image point inode page) 0)
+  no_page_within page none small = are page small ∙ by (cases_eq (page_address image ckpt inode page) 0)
     where
-      by : (page_address image point inode page ≡ 0) ⊎ (page_address image point inode page ≢ 0) → block_there image (page_address image point inode page) ≡ None
+      by : (page_address image ckpt inode page ≡ 0) ⊎ (page_address image ckpt inode page ≢ 0) → block_there image (page_address image ckpt inode page) ≡ None
       by (inl zero) = ap (block_there image) zero
       by (inr some) =
-          let known = part.all_pages page (page_address image point inode page) (record { reached = reached; kind = kind; inode = inode; is = own; within = small; address = refl; there = some }) small in
-          absurd (none-some (page_address image point inode page) (sym none ∙ known))
+          let known = part.all_pages page (page_address image ckpt inode page) (record { reached = reached; kind = kind; inode = inode; is = own; within = small; address = refl; there = some }) small in
+          absurd (none-some (page_address image ckpt inode page) (sym none ∙ known))
 
   no_page_past : (page : ℕ) → page_limit ≤ page → map.get pages page ≡ None
   no_page_past page past = by (map.get pages page) refl

@@ -18,7 +18,7 @@ use Rattle.f2_recover_laws.specs.Sound.{IsRowLike, AreAlike}
 use Rattle.f2_recover_laws.proofs.Stands.{stands_by}
 use Rattle.f2_recover_laws.proofs.FilePages.{pages_known}
 
-module _ (image : Image) (point : Checkpoint) (walk : Walk) (is : IsWalked image point walk) (tree : Rows) (base : IsBase image point tree) where
+module _ (image : Image) (ckpt : Checkpoint) (walk : Walk) (is : IsWalked image ckpt walk) (tree : Rows) (base : IsBase image ckpt tree) where
   -- a row of the tree and one that was read stand in one directory under one name
   record StandBoth (ino : ℕ) : Type 0 where
     directory : ℕ
@@ -26,10 +26,10 @@ module _ (image : Image) (point : Checkpoint) (walk : Walk) (is : IsWalked image
     in_tree : StandsAs tree ino directory name
     read : HasRow walk.rows ino (λ row. (row.parent ≡ directory) × (row.name ≡ name))
 
-  stand_both : (ino : ℕ) → IsReached image point ino → StandBoth ino
+  stand_both : (ino : ℕ) → IsReached image ckpt ino → StandBoth ino
   stand_both _ root = record { directory = ROOT; name = []; in_tree = base.root; read = record { row = is.to.root.row; there = is.to.root.there; is = (is.to.root.is.parent, is.to.root.is.named) } }
   stand_both _ (below directory dentry up has) =
-      let row = stands_by image point walk is directory has.0 has.1 dentry up has.2 in
+      let row = stands_by image ckpt walk is directory has.0 has.1 dentry up has.2 in
       record { directory = directory; name = dentry.name; in_tree = base.names directory dentry up has; read = record { row = row.row; there = row.there; is = (row.is.parent, row.is.named) } }
 
   module _ (ino : ℕ) (row : Row) (own : BaseRow) (in_tree : map.get tree ino ≡ Some row) (there : map.get walk.rows ino ≡ Some own) where
@@ -41,13 +41,13 @@ module _ (image : Image) (point : Checkpoint) (walk : Walk) (is : IsWalked image
         let rows : both.in_tree.row ≡ row = same_Some both.in_tree.row row (sym both.in_tree.there ∙ in_tree) in
         let owns : both.read.row ≡ own = same_Some both.read.row own (sym both.read.there ∙ there) in
         let inodes : at.inode ≡ file.inode = same_Some at.inode file.inode (sym at.is.there ∙ file.is.there) in
-        let content = λ (regular : row.kind ≡ Regular). subst (λ k. HasContent image point at.inode k row) regular at.content in
+        let content = λ (regular : row.kind ≡ Regular). subst (λ k. HasContent image ckpt at.inode k row) regular at.content in
         record {
-          kind = one_kind image point ino row.kind own.file.kind at.inode file.inode at.is file.is;
+          kind = one_kind image ckpt ino row.kind own.file.kind at.inode file.inode at.is file.is;
           parent = ap (λ (r : Row). r.parent) (sym rows) ∙ both.in_tree.parent ∙ sym both.read.is.0 ∙ ap (λ (r : BaseRow). r.parent) owns;
           named = ap (λ (r : Row). r.name) (sym rows) ∙ both.in_tree.named ∙ sym both.read.is.1 ∙ ap (λ (r : BaseRow). r.name) owns;
           size = λ regular. (content regular).0 ∙ ap (λ n. (inode_of n).size) inodes ∙ sym file.size;
-          pages = λ regular. pages_known image point ino row.kind at.inode at.reached at.is row.pages (content regular).1 (content regular).2 own.file.nodes file.part;
+          pages = λ regular. pages_known image ckpt ino row.kind at.inode at.reached at.is row.pages (content regular).1 (content regular).2 own.file.nodes file.part;
         }
 
   pub alike : (ino : ℕ) → AreAlike image (map.get tree ino) (map.get walk.rows ino)
@@ -55,6 +55,6 @@ module _ (image : Image) (point : Checkpoint) (walk : Walk) (is : IsWalked image
     where
       by : (x : Option Row) (y : Option BaseRow) → map.get tree ino ≡ x → map.get walk.rows ino ≡ y → AreAlike image x y
       by None None p q = tt
-      by (Some row) None p q = let has = row_of image point walk is ino (base.rows ino row p).reached in none-some has.row (sym q ∙ has.there)
+      by (Some row) None p q = let has = row_of image ckpt walk is ino (base.rows ino row p).reached in none-some has.row (sym q ∙ has.there)
       by None (Some own) p q = let both = stand_both ino (is.to.rows ino own q).file.reached in none-some both.in_tree.row (sym p ∙ both.in_tree.there)
       by (Some row) (Some own) p q = like ino row own p q

@@ -23,10 +23,10 @@ use Rattle.f2_recover.specs.declared.walk.Walk.{Walk}
 use Rattle.f2_recover_laws.proofs.Stands.{stands_by}
 
 -- a size and pages with which a row of this kind has the content of an inode
-content : (image : Image) (point : Checkpoint) (kind : Kind) (inode : List ℕ) → (size : ℕ) × ((pages : PageMap) × ((row : Row) → row.size ≡ size → row.pages ≡ pages → HasContent image point inode kind row))
-content image point Directory inode = (0, (map.empty, λ row size pages. (size, pages)))
-content image point Regular inode =
-    let pages = map_below (λ page. block_there image (page_address image point inode page)) page_limit in (
+content : (image : Image) (ckpt : Checkpoint) (kind : Kind) (inode : List ℕ) → (size : ℕ) × ((pages : PageMap) × ((row : Row) → row.size ≡ size → row.pages ≡ pages → HasContent image ckpt inode kind row))
+content image ckpt Directory inode = (0, (map.empty, λ row size pages. (size, pages)))
+content image ckpt Regular inode =
+    let pages = map_below (λ page. block_there image (page_address image ckpt inode page)) page_limit in (
       (inode_of inode).size,
       (
         pages.entries,
@@ -38,17 +38,17 @@ content image point Regular inode =
       ),
     )
 
-module _ (image : Image) (point : Checkpoint) (walk : Walk) (is : IsWalked image point walk) where
+module _ (image : Image) (ckpt : Checkpoint) (walk : Walk) (is : IsWalked image ckpt walk) where
   -- a row of the base stands where a row that was read does
   record IsMadeOf (ino : ℕ) (own : BaseRow) (row : Row) : Type 0 where
-    of_base : IsBaseRow image point ino row
+    of_base : IsBaseRow image ckpt ino row
     parent : row.parent ≡ own.parent
     named : row.name ≡ own.name
 
   made : (ino : ℕ) (own : BaseRow) → map.get walk.rows ino ≡ Some own → (row : Row) × IsMadeOf ino own row
   made ino own there =
       let file = (is.to.rows ino own there).file in
-      let parts = content image point own.file.kind file.inode in
+      let parts = content image ckpt own.file.kind file.inode in
       let row : Row = record { ino = ino; kind = own.file.kind; parent = own.parent; name = own.name; size = parts.0; pages = parts.1.0 } in (
         row,
         record {
@@ -61,7 +61,7 @@ module _ (image : Image) (point : Checkpoint) (walk : Walk) (is : IsWalked image
   -- the row of an ino, where a row of it was read
   record Choice (ino : ℕ) : Type 0 where
     row : Option Row
-    of_base : (r : Row) → row ≡ Some r → IsBaseRow image point ino r
+    of_base : (r : Row) → row ≡ Some r → IsBaseRow image ckpt ino r
     of_read : (own : BaseRow) → map.get walk.rows ino ≡ Some own → (r : Row) × ((row ≡ Some r) × IsMadeOf ino own r)
 
   chosen : (ino : ℕ) → Choice ino
@@ -73,29 +73,29 @@ module _ (image : Image) (point : Checkpoint) (walk : Walk) (is : IsWalked image
           let at = made ino own e in
           record {
             row = Some at.0;
-            of_base = λ r p. subst (IsBaseRow image point ino) (same_Some at.0 r p) at.1.of_base;
+            of_base = λ r p. subst (IsBaseRow image ckpt ino) (same_Some at.0 r p) at.1.of_base;
             of_read = λ other there. (at.0, (refl, subst (λ o. IsMadeOf ino o at.0) (same_Some own other (sym e ∙ there)) at.1));
           }
 
-  rows : MapBelow (nid_limit point.extent) (λ ino. (chosen ino).row)
-  rows = map_below (λ ino. (chosen ino).row) (nid_limit point.extent)
+  rows : MapBelow (nid_limit ckpt.geom) (λ ino. (chosen ino).row)
+  rows = map_below (λ ino. (chosen ino).row) (nid_limit ckpt.geom)
 
   -- the base has a row of each ino of which one was read
   stands : (ino : ℕ) (own : BaseRow) (directory : ℕ) (name : List ℕ) → map.get walk.rows ino ≡ Some own → own.parent ≡ directory → own.name ≡ name → StandsAs rows.entries ino directory name
   stands ino own directory name there parent named =
       let file = (is.to.rows ino own there).file in
-      let within : ino < nid_limit point.extent = node_in_table image point ino file.inode file.is.there in
+      let within : ino < nid_limit ckpt.geom = node_in_table image ckpt ino file.inode file.is.there in
       let at = (chosen ino).of_read own there in
       record { row = at.0; there = rows.below ino within ∙ at.1.0; parent = at.1.1.parent ∙ parent; named = at.1.1.named ∙ named }
 
-  pub read_base : (base : Rows) × IsBase image point base
+  pub read_base : (base : Rows) × IsBase image ckpt base
   read_base = (
     rows.entries,
     record {
       rows = λ ino row there. (chosen ino).of_base row (sym (rows.below ino (rows.within ino row there)) ∙ there);
       root = let root = is.to.root in stands ROOT root.row ROOT [] root.there root.is.parent root.is.named;
       names = λ directory dentry reached has.
-          let row = stands_by image point walk is directory has.0 has.1 dentry reached has.2 in
+          let row = stands_by image ckpt walk is directory has.0 has.1 dentry reached has.2 in
           stands dentry.ino row.row directory dentry.name row.there row.is.parent row.is.named;
     },
   )

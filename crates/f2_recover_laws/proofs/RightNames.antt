@@ -27,41 +27,41 @@ same_type Directory = refl
 not_both_kinds : Directory ≡ Regular → ⊥
 not_both_kinds e = cc
 
-module _ (image : Image) (point : Checkpoint) (walk : Walk) (is : IsWalked image point walk) where
-  root_directory : (inode : List ℕ) → IsInode image point ROOT Regular inode → ⊥
+module _ (image : Image) (ckpt : Checkpoint) (walk : Walk) (is : IsWalked image ckpt walk) where
+  root_directory : (inode : List ℕ) → IsInode image ckpt ROOT Regular inode → ⊥
   root_directory inode own =
       let root = is.to.root in
       let file = (is.to.rows ROOT root.row root.there).file in
-      not_both_kinds (sym root.is.kind ∙ one_kind image point ROOT root.row.file.kind Regular file.inode inode file.is own)
+      not_both_kinds (sym root.is.kind ∙ one_kind image ckpt ROOT root.row.file.kind Regular file.inode inode file.is own)
 
-  whole : (directory page at : ℕ) → IsReached image point directory → IsDirectoryBlock image point directory page at → dentry_fault (block_at image at) ≡ None
-  whole directory page at reached block = (is.to.walked directory (was_walked image point walk is directory block.inode (row_of image point walk is directory reached) block.is)).whole page at block
+  whole : (directory page at : ℕ) → IsReached image ckpt directory → IsDirectoryBlock image ckpt directory page at → dentry_fault (block_at image at) ≡ None
+  whole directory page at reached block = (is.to.walked directory (was_walked image ckpt walk is directory block.inode (row_of image ckpt walk is directory reached) block.is)).whole page at block
 
-  kinds : (directory : ℕ) (dentry : Dentry) (kind : Kind) (inode : List ℕ) → IsReached image point directory → HasDentry image point directory dentry → IsInode image point dentry.ino kind inode → type_of_kind kind ≡ dentry.type
+  kinds : (directory : ℕ) (dentry : Dentry) (kind : Kind) (inode : List ℕ) → IsReached image ckpt directory → HasDentry image ckpt directory dentry → IsInode image ckpt dentry.ino kind inode → type_of_kind kind ≡ dentry.type
   kinds directory dentry kind inode reached has own =
-      let row = stands_by image point walk is directory has.0 has.1 dentry reached has.2 in
+      let row = stands_by image ckpt walk is directory has.0 has.1 dentry reached has.2 in
       let file = (is.to.rows dentry.ino row.row row.there).file in
-      same_type kind ∙ ap type_of (one_kind image point dentry.ino kind row.row.file.kind inode file.inode own file.is) ∙ sym row.is.typed
+      same_type kind ∙ ap type_of (one_kind image ckpt dentry.ino kind row.row.file.kind inode file.inode own file.is) ∙ sym row.is.typed
 
-  ends : (ino page at : ℕ) (inode : List ℕ) → IsReached image point ino → IsInode image point ino Regular inode → IsBasePage image point ino page at → IsPastSize image (inode_of inode).size page at → ⊥
+  ends : (ino page at : ℕ) (inode : List ℕ) → IsReached image ckpt ino → IsInode image ckpt ino Regular inode → IsBasePage image ckpt ino page at → IsPastSize image (inode_of inode).size page at → ⊥
   ends ino page at inode reached own base past =
-      let has = row_of image point walk is ino reached in
+      let has = row_of image ckpt walk is ino reached in
       let file = has.is.file in
-      let regular : has.row.file.kind ≡ Regular = one_kind image point ino has.row.file.kind Regular file.inode inode file.is own in
+      let regular : has.row.file.kind ≡ Regular = one_kind image ckpt ino has.row.file.kind Regular file.inode inode file.is own in
       let size : (inode_of inode).size ≡ has.row.file.size = ap (λ n. (inode_of n).size) (same_Some inode file.inode (sym own.there ∙ file.is.there)) ∙ sym file.size in
       has.is.ends regular page at base (subst (λ s. IsPastSize image s page at) size past)
 
-pub right_names : (image : Image) (point : Checkpoint) (walk : Walk) → IsBaseRead image point walk → HasRightNames image point
-right_names image point walk read =
+pub right_names : (image : Image) (ckpt : Checkpoint) (walk : Walk) → IsBaseRead image ckpt walk → HasRightNames image ckpt
+right_names image ckpt walk read =
     let is = read.walked in
     record {
-      root = root_directory image point walk is;
-      whole = whole image point walk is;
-      least = λ directory dentry reached has. (stands_by image point walk is directory has.0 has.1 dentry reached has.2).is.least;
-      good = λ directory dentry reached has. (stands_by image point walk is directory has.0 has.1 dentry reached has.2).is.good;
-      kinds = kinds image point walk is;
-      once = one_dentry image point walk is;
-      names = one_name image point walk is;
-      depth = fit_depth image point walk read;
-      ends = ends image point walk is;
+      root = root_directory image ckpt walk is;
+      whole = whole image ckpt walk is;
+      least = λ directory dentry reached has. (stands_by image ckpt walk is directory has.0 has.1 dentry reached has.2).is.least;
+      good = λ directory dentry reached has. (stands_by image ckpt walk is directory has.0 has.1 dentry reached has.2).is.good;
+      kinds = kinds image ckpt walk is;
+      once = one_dentry image ckpt walk is;
+      names = one_name image ckpt walk is;
+      depth = fit_depth image ckpt walk read;
+      ends = ends image ckpt walk is;
     }

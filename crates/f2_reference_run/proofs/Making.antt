@@ -5,7 +5,7 @@ use Rattle.std.specs.FinMap as map
 use Rattle.std.specs.FinMap.{nat_cmp-IsAntisymmetric}
 use Rattle.std.specs.Ordering.{nat_cmp, eq_by_cmp}
 use Rattle.std.specs.Cmp.{nat_cmp_total, unsigned_tied}
-use Rattle.f2_format.specs.Geometry.{Extent, node_third, data_third}
+use Rattle.f2_format.specs.Geometry.{ImageGeometry, node_third, data_third}
 use Rattle.f2_model.specs.declared.bounds.Limits.{Limits}
 use Rattle.f2_model.specs.declared.histories.Entry.TheVariants as entry
 use Rattle.f2_model.specs.declared.replies.Plan.TheVariants as plans
@@ -76,16 +76,16 @@ mkfs_happened limits = (
 )
 
 -- what the line comes to
-abbrev pub mkfs_part : Limits → Extent → Part
-mkfs_part limits extent = record {
-  text = ended (made_spelling (node_third extent) (data_third extent));
+abbrev pub mkfs_part : Limits → ImageGeometry → Part
+mkfs_part limits geom = record {
+  text = ended (made_spelling (node_third geom) (data_third geom));
   events = mounted ∷ tailed ∷ flushed ∷ [];
   faults = calm;
   after = (made_by limits).state;
 }
 
-pub mkfs_played : (limits : Limits) (extent : Extent) → PlaysMkfs limits extent (mkfs_part limits extent)
-mkfs_played limits extent = record {
+pub mkfs_played : (limits : Limits) (geom : ImageGeometry) → PlaysMkfs limits geom (mkfs_part limits geom)
+mkfs_played limits geom = record {
   happened = mkfs_happened limits;
   mounted = record {
     one = mounted;

@@ -2,7 +2,7 @@
 use Rattle.std.proofs.Common.{◌≡◌, ◌∙◌, ℕ, Bool, true, false, List, [], ◌∷◌, ◌++◌, refl, sym, ap, subst, append_assoc, append-nil, length, Result, Ok, is_err, is_ok, arith, inl, inr}
 use Rattle.std.specs.Prelude.{if◌then◌else◌, ◌||◌, ◌≢◌, codes, Option, Some, None, Err, is_some}
 use Rattle.std.specs.List.{AllByRecursion}
-use Rattle.f2_format.specs.Geometry.{Extent, node_third, data_third}
+use Rattle.f2_format.specs.Geometry.{ImageGeometry, node_third, data_third}
 use Rattle.f2_layout.specs.Refusal.{geometry_of}
 use Rattle.f2_layout.specs.declared.geometry.Limit.{Limit}
 use Rattle.f2_model.specs.declared.bounds.Limits.{Limits}
@@ -148,23 +148,23 @@ AreChosen-snoc from mid to (l ∷ lines) [] line part first last = absurd first
 AreChosen-snoc from mid to (l ∷ lines) (p ∷ parts) line part first last = (first.0, first.1, AreChosen-snoc first.0 mid to lines parts line part first.2 last)
 
 -- what an image grants the plain machine
-abbrev plain_limits : Extent → Limits
-plain_limits extent = granted MOST_SIZE extent
+abbrev plain_limits : ImageGeometry → Limits
+plain_limits geom = granted MOST_SIZE geom
 
 -- a machine was made, and lines were played on it
 pub record IsUnderWay (done : List Line) (text : List ℕ) (now : Stage) : Type 0 where
   pub skipped : List Line
   pub silent : AllByRecursion SaysNothing skipped
-  pub extent : Extent
-  pub sizes : geometry_of extent ≡ Ok extent
+  pub geom : ImageGeometry
+  pub sizes : geometry_of geom ≡ Ok geom
   pub lines : List Line
-  pub whole : done ≡ skipped ++ verb.Mkfs extent.blocks extent.nat ∷ lines
+  pub whole : done ≡ skipped ++ verb.Mkfs geom.blocks geom.nat ∷ lines
   pub parts : List Part
   pub calm_parts : AllByRecursion IsCalm parts
-  pub played : PlaysLines (plain_limits extent) (first_stage extent).seen.state lines parts now.seen.state
-  pub chosen : AreChosen (first_stage extent) lines parts now
-  pub limits : now.seen.limits ≡ plain_limits extent
-  pub printed : text ≡ text_of (mkfs_part (plain_limits extent) extent ∷ parts)
+  pub played : PlaysLines (plain_limits geom) (first_stage geom).seen.state lines parts now.seen.state
+  pub chosen : AreChosen (first_stage geom) lines parts now
+  pub limits : now.seen.limits ≡ plain_limits geom
+  pub printed : text ≡ text_of (mkfs_part (plain_limits geom) geom ∷ parts)
 
 -- lines were played so far, before there was a machine or with it
 abbrev pub Reaches : List Line → List ℕ → Option Stage → Type 0
@@ -174,20 +174,20 @@ Reaches done text (Some now) = IsUnderWay done text now
 under_way_made : (done : List Line) (text printed : List ℕ) (blocks nat : ℕ) (to : Option Stage) → AllByRecursion SaysNothing done → text ≡ [] → IsMade blocks nat printed to
     → Reaches (done ++ verb.Mkfs blocks nat ∷ []) (text ++ printed) to
 under_way_made done text printed blocks nat to silent nothing made =
-    let asked : made.extent ≡ record { blocks = blocks; nat = nat } = geometry_of-ok record { blocks = blocks; nat = nat } made.extent made.sizes in
+    let asked : made.geom ≡ record { blocks = blocks; nat = nat } = geometry_of-ok record { blocks = blocks; nat = nat } made.geom made.sizes in
     subst (λ o. Reaches (done ++ verb.Mkfs blocks nat ∷ []) (text ++ printed) o) (sym made.made) record {
       skipped = done;
       silent = silent;
-      extent = made.extent;
-      sizes = subst (λ e. geometry_of e ≡ Ok made.extent) (sym asked) made.sizes;
+      geom = made.geom;
+      sizes = subst (λ e. geometry_of e ≡ Ok made.geom) (sym asked) made.sizes;
       lines = [];
-      whole = ap (λ (e : Extent). done ++ verb.Mkfs e.blocks e.nat ∷ []) (sym asked);
+      whole = ap (λ (e : ImageGeometry). done ++ verb.Mkfs e.blocks e.nat ∷ []) (sym asked);
       parts = [];
       calm_parts = tt;
       played = refl;
       chosen = refl;
       limits = refl;
-      printed = ap (λ t. t ++ printed) nothing ∙ made.said ∙ sym (append-nil (ended (made_spelling (node_third made.extent) (data_third made.extent))));
+      printed = ap (λ t. t ++ printed) nothing ∙ made.said ∙ sym (append-nil (ended (made_spelling (node_third made.geom) (data_third made.geom))));
     }
 
 under_way_step : (done : List Line) (text printed : List ℕ) (now to : Stage) (line : Line) → IsUnderWay done text now → PlaysOn now line printed to
@@ -197,19 +197,19 @@ under_way_step done text printed now to line so_far plays =
     record {
       skipped = so_far.skipped;
       silent = so_far.silent;
-      extent = so_far.extent;
+      geom = so_far.geom;
       sizes = so_far.sizes;
       lines = so_far.lines ++ line ∷ [];
-      whole = ap (λ ls. ls ++ line ∷ []) so_far.whole ∙ append_assoc so_far.skipped (verb.Mkfs so_far.extent.blocks so_far.extent.nat ∷ so_far.lines) (line ∷ []);
+      whole = ap (λ ls. ls ++ line ∷ []) so_far.whole ∙ append_assoc so_far.skipped (verb.Mkfs so_far.geom.blocks so_far.geom.nat ∷ so_far.lines) (line ∷ []);
       parts = so_far.parts ++ plays.part ∷ [];
       calm_parts = all-snoc IsCalm so_far.parts plays.part so_far.calm_parts plays.chosen.no_fault;
-      played = subst (λ s. PlaysLines (plain_limits so_far.extent) (first_stage so_far.extent).seen.state (so_far.lines ++ line ∷ []) (so_far.parts ++ plays.part ∷ []) s)
+      played = subst (λ s. PlaysLines (plain_limits so_far.geom) (first_stage so_far.geom).seen.state (so_far.lines ++ line ∷ []) (so_far.parts ++ plays.part ∷ []) s)
           (plays.chosen.state ∙ ap (λ (s : Seen). s.state) (sym seen))
-          (PlaysLines-snoc (plain_limits so_far.extent) (first_stage so_far.extent).seen.state now.seen.state so_far.lines so_far.parts line plays.part so_far.played
+          (PlaysLines-snoc (plain_limits so_far.geom) (first_stage so_far.geom).seen.state now.seen.state so_far.lines so_far.parts line plays.part so_far.played
           (subst (λ l. PlaysLine l now.seen.state line plays.part) so_far.limits plays.played));
-      chosen = AreChosen-snoc (first_stage so_far.extent) now to so_far.lines so_far.parts line plays.part so_far.chosen plays.chosen;
+      chosen = AreChosen-snoc (first_stage so_far.geom) now to so_far.lines so_far.parts line plays.part so_far.chosen plays.chosen;
       limits = ap (λ (s : Seen). s.limits) seen ∙ all_limits plays.part.events now plays.chosen.mid plays.chosen.made ∙ so_far.limits;
-      printed = text_of-snoc (mkfs_part (plain_limits so_far.extent) so_far.extent ∷ so_far.parts) plays.part text printed so_far.printed plays.printed;
+      printed = text_of-snoc (mkfs_part (plain_limits so_far.geom) so_far.geom ∷ so_far.parts) plays.part text printed so_far.printed plays.printed;
     }
 
 reaches_step : (done : List Line) (text printed : List ℕ) (now : Option Stage) (line : Line) (to : Option Stage) → Reaches done text now → PlaysNext now line printed to
@@ -250,22 +250,22 @@ all_silent done silent = record {
 
 all_under_way : (done : List Line) (text : List ℕ) (now : Stage) → IsUnderWay done text now → PlaysAll MOST_SIZE IsScriptChosen done text
 all_under_way done text now so_far =
-    let extent = so_far.extent in
-    let mkfs : Line = verb.Mkfs extent.blocks extent.nat in
-    let first : Part = mkfs_part (plain_limits extent) extent in
+    let geom = so_far.geom in
+    let mkfs : Line = verb.Mkfs geom.blocks geom.nat in
+    let first : Part = mkfs_part (plain_limits geom) geom in
     let parts : List Part = first ∷ so_far.parts in
-    let image : PlaysImage MOST_SIZE extent so_far.lines parts = record {
+    let image : PlaysImage MOST_SIZE geom so_far.lines parts = record {
       sizes = so_far.sizes;
       first = first;
       rest = so_far.parts;
       whole = refl;
       after = now.seen.state;
-      made = mkfs_played (plain_limits extent) extent;
+      made = mkfs_played (plain_limits geom) geom;
       played = so_far.played;
       count = 0;
-      counted = image-counted (plain_limits extent) now.seen.state mkfs so_far.lines (nothing_planned 0) first so_far.parts refl so_far.played so_far.calm_parts;
+      counted = image-counted (plain_limits geom) now.seen.state mkfs so_far.lines (nothing_planned 0) first so_far.parts refl so_far.played so_far.calm_parts;
     } in
-    let chosen : IsImageChosen extent so_far.lines parts = record {
+    let chosen : IsImageChosen geom so_far.lines parts = record {
       first = first;
       rest = so_far.parts;
       whole = refl;

@@ -1,6 +1,6 @@
 -- That the lines of a script came to what a plain machine chooses.
 use Rattle.std.specs.Prelude.{◌≡◌, ℕ, List, [], ◌∷◌}
-use Rattle.f2_format.specs.Geometry.{Extent}
+use Rattle.f2_format.specs.Geometry.{ImageGeometry}
 use Rattle.f2_spans.specs.Spans.{MOST_SIZE}
 use Rattle.f2_script.specs.declared.script.Line.{Line}
 use Rattle.f2_script.specs.declared.script.Line.TheVariants.{Skipped, Mkfs}
@@ -27,14 +27,14 @@ AreChosen from (line ∷ lines) [] to = ⊥
 AreChosen from (line ∷ lines) (part ∷ parts) to = (mid : Stage) × IsChosen from line part mid × AreChosen mid lines parts to
 
 -- from a `mkfs` line on, which makes a machine
-pub record IsImageChosen (extent : Extent) (lines : List Line) (parts : List Part) : Type 0 where
+pub record IsImageChosen (geom : ImageGeometry) (lines : List Line) (parts : List Part) : Type 0 where
   pub first : Part
   pub rest : List Part
   pub whole : parts ≡ first ∷ rest
   pub no_fault : IsCalm first
-  pub state : first.after ≡ (first_stage extent).seen.state
+  pub state : first.after ≡ (first_stage geom).seen.state
   pub last : Stage
-  pub chosen : AreChosen (first_stage extent) lines rest last
+  pub chosen : AreChosen (first_stage geom) lines rest last
 
 -- the lines of a script did
 abbrev pub IsScriptChosen : List Line → List Part → Type 0

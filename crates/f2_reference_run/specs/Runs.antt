@@ -1,6 +1,6 @@
 -- What the inner functions come to.
 use Rattle.std.specs.Prelude.{◌≡◌, ℕ, Bool, ◌||◌, List, [], ◌∷◌, Option, Some, None, Ok, Err}
-use Rattle.f2_format.specs.Geometry.{Extent, node_third, data_third}
+use Rattle.f2_format.specs.Geometry.{ImageGeometry, node_third, data_third}
 use Rattle.f2_layout.specs.Refusal.{geometry_of}
 use Rattle.f2_model.specs.Step.{IsSeat, calm}
 use Rattle.f2_model.specs.Run.{Happening}
@@ -62,10 +62,10 @@ IsPlayed _ = Unit {0}
 
 -- a machine was made for an image of these sizes
 pub record IsMade (blocks nat : ℕ) (printed : List ℕ) (to : Option Stage) : Type 0 where
-  pub extent : Extent
-  pub sizes : geometry_of record { blocks = blocks; nat = nat } ≡ Ok extent
-  pub made : to ≡ Some (first_stage extent)
-  pub said : printed ≡ ended (made_spelling (node_third extent) (data_third extent))
+  pub geom : ImageGeometry
+  pub sizes : geometry_of record { blocks = blocks; nat = nat } ≡ Ok geom
+  pub made : to ≡ Some (first_stage geom)
+  pub said : printed ≡ ended (made_spelling (node_third geom) (data_third geom))
 
 -- what a line prints, also before there is a machine, and the machine after it
 abbrev pub PlaysNext : Option Stage → Line → List ℕ → Option Stage → Type 0

@@ -1,6 +1,6 @@
 -- A plain machine on which lines are played, and what it is told to choose.
 use Rattle.std.specs.Prelude.{◌≡◌, ℕ, Bool, true, false, if◌then◌else◌, ◌==◌, List, [], ◌∷◌}
-use Rattle.f2_format.specs.Geometry.{Extent}
+use Rattle.f2_format.specs.Geometry.{ImageGeometry}
 use Rattle.f2_model.specs.State.{State}
 use Rattle.f2_model.specs.Step.{calm}
 use Rattle.f2_model.specs.Run.{Happening}
@@ -43,8 +43,8 @@ abbrev pub whole : State → Choices
 whole state = record { marks = UpTo (written_place state); pending = true; blocks = 0 }
 
 -- the machine that a `mkfs` line makes; a file may have all the pages that its nodes can name
-abbrev pub first_stage : Extent → Stage
-first_stage extent = record { seen = made_by (granted MOST_SIZE extent); choices = least; is_settled = false; flushed = 0 }
+abbrev pub first_stage : ImageGeometry → Stage
+first_stage geom = record { seen = made_by (granted MOST_SIZE geom); choices = least; is_settled = false; flushed = 0 }
 
 -- whether the end of a call is a flush: the last one of an fsync, or of a checkpoint
 abbrev pub ends_by_flush : Reply → Bool

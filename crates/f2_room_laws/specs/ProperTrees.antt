@@ -1,7 +1,7 @@
 -- Trees that an image can hold, and the tree of an image that was just made.
 use Rattle.std.specs.Prelude.{◌≡◌, ℕ, ◌<◌, ◌≤◌, Some}
 use Rattle.std.specs.FinMap as map
-use Rattle.f2_format.specs.Geometry.{Extent, IsGeometry, node_third, nid_limit}
+use Rattle.f2_format.specs.Geometry.{ImageGeometry, IsGeometry, node_third, nid_limit}
 use Rattle.f2_model.specs.Tree.{Rows, ROOT, root_alone, IsGoodTree}
 use Rattle.f2_model.specs.Count.{nodes_of_tree, data_of_tree}
 use Rattle.f2_model.specs.declared.bounds.Limits.{Limits}
@@ -26,10 +26,10 @@ pub record HasRoomForRoot (limits : Limits) : Type 0 where
 -- the limits of a geometry have room for the root
 abbrev pub GeometriesHaveRoomForRoot : Type 0
 GeometriesHaveRoomForRoot =
-    (extent : Extent) (limits : Limits) →
-    IsGeometry extent →
-    limits.nodes ≡ node_third extent →
-    limits.nids ≡ nid_limit extent →
+    (geom : ImageGeometry) (limits : Limits) →
+    IsGeometry geom →
+    limits.nodes ≡ node_third geom →
+    limits.nids ≡ nid_limit geom →
     HasRoomForRoot limits
 
 -- and then the tree of the root alone is proper

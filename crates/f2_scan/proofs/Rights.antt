@@ -48,29 +48,29 @@ not_both b is isnt = two (sym is ∙ isnt)
     two : true ≡ false → ⊥
     two h = cc
 
-module _ (image : Image) (point : Checkpoint) where
-  pub none_stands : IsRightLog point.extent (chain image point) → HasNoLogFault image point
+module _ (image : Image) (ckpt : Checkpoint) where
+  pub none_stands : IsRightLog ckpt.geom (chain image ckpt) → HasNoLogFault image ckpt
   none_stands sound =
       record {
-        no_chain_long = λ at long. let more : node_third point.extent < length (chain image point) = long.0 in absurd (omega (arith, more, sound.size));
+        no_chain_long = λ at long. let more : node_third ckpt.geom < length (chain image ckpt) = long.0 in absurd (omega (arith, more, sound.size));
         no_bad_inode = λ place block marked odd.
             (sound.right place no_block marked.within).inode (subst (λ (b : List ℕ). IsTrue (is_marked b)) marked.stands marked.marked)
             (subst IsForeign marked.stands odd);
         no_out_of_zone = λ place at within is some out.
-            not_both (is_in_node point.extent at)
-            (subst (λ (k : ℕ). IsTrue (is_in_node point.extent k)) is ((sound.right place no_block within).next (λ z. some (sym is ∙ z)))) out;
+            not_both (is_in_node ckpt.geom at)
+            (subst (λ (k : ℕ). IsTrue (is_in_node ckpt.geom k)) is ((sound.right place no_block within).next (λ z. some (sym is ∙ z)))) out;
       }
 
   -- each fault is the condition of its name
-  pub long_stands : (at : ℕ) → IsFault point.extent (chain image point) (ChainLong at) → IsChainLong image point at
+  pub long_stands : (at : ℕ) → IsFault ckpt.geom (chain image ckpt) (ChainLong at) → IsChainLong image ckpt at
   long_stands at fault = fault
 
-  pub inode_stands : (at : ℕ) (why : InodeFault) → IsFault point.extent (chain image point) (BadInode at why) → IsBadInode image point at
+  pub inode_stands : (at : ℕ) (why : InodeFault) → IsFault ckpt.geom (chain image ckpt) (BadInode at why) → IsBadInode image ckpt at
   inode_stands at why fault =
-      faults.in_log fault.place (block_in (chain image point) fault.place)
+      faults.in_log fault.place (block_in (chain image ckpt) fault.place)
       (record { within = fault.within; stands = refl; marked = fault.wrong.0 })
       (sym fault.wrong.1)
-      (odd (block_in (chain image point) fault.place) why fault.wrong.2)
+      (odd (block_in (chain image ckpt) fault.place) why fault.wrong.2)
 
-  pub next_stands : (at : ℕ) → IsFault point.extent (chain image point) (OutOfZone at) → IsOutOfZone image point at
+  pub next_stands : (at : ℕ) → IsFault ckpt.geom (chain image ckpt) (OutOfZone at) → IsOutOfZone image ckpt at
   next_stands at fault = faults.next fault.place fault.within (sym fault.wrong.0) fault.wrong.1 fault.wrong.2

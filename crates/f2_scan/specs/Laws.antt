@@ -14,28 +14,28 @@ use Rattle.f2_scan.specs.Logs.{IsFault, IsRightLog, log_from}
 
 -- the log that a scan is about, from where and with which version the checkpoint says
 abbrev pub log_of : Image → Checkpoint → List Logged
-log_of image point = log_from point.extent image (recovery_version point) point.head.log_start
+log_of image ckpt = log_from ckpt.geom image (recovery_version ckpt) ckpt.head.log_start
 
 -- it is the chain of the image
 abbrev pub LogsAreChains : Type 0
-LogsAreChains = (image : Image) (point : Checkpoint) → log_of image point ≡ chain image point
+LogsAreChains = (image : Image) (ckpt : Checkpoint) → log_of image ckpt ≡ chain image ckpt
 
 -- no condition that stands for the node log stands in an image
-pub record HasNoLogFault (image : Image) (point : Checkpoint) : Type 0 where
-  pub no_chain_long : (at : ℕ) → ¬ (IsChainLong image point at)
-  pub no_bad_inode : (place : ℕ) (block : List ℕ) → IsMarkedAt image point place block → ¬ (IsForeign block)
-  pub no_out_of_zone : (place at : ℕ) → place < length (chain image point) → footer_next (slice_index_or (chain image point) place no_block).block ≡ at
-      → at ≢ 0 → ¬ (is_in_node point.extent at ≡ false)
+pub record HasNoLogFault (image : Image) (ckpt : Checkpoint) : Type 0 where
+  pub no_chain_long : (at : ℕ) → ¬ (IsChainLong image ckpt at)
+  pub no_bad_inode : (place : ℕ) (block : List ℕ) → IsMarkedAt image ckpt place block → ¬ (IsForeign block)
+  pub no_out_of_zone : (place at : ℕ) → place < length (chain image ckpt) → footer_next (slice_index_or (chain image ckpt) place no_block).block ≡ at
+      → at ≢ 0 → ¬ (is_in_node ckpt.geom at ≡ false)
 
 abbrev pub RightLogsHaveNoFault : Type 0
-RightLogsHaveNoFault = (image : Image) (point : Checkpoint) → IsRightLog point.extent (log_of image point) → HasNoLogFault image point
+RightLogsHaveNoFault = (image : Image) (ckpt : Checkpoint) → IsRightLog ckpt.geom (log_of image ckpt) → HasNoLogFault image ckpt
 
 -- each fault is the condition of its name, with its number
 abbrev pub LongChainsAreLong : Type 0
-LongChainsAreLong = (image : Image) (point : Checkpoint) (at : ℕ) → IsFault point.extent (log_of image point) (ChainLong at) → IsChainLong image point at
+LongChainsAreLong = (image : Image) (ckpt : Checkpoint) (at : ℕ) → IsFault ckpt.geom (log_of image ckpt) (ChainLong at) → IsChainLong image ckpt at
 
 abbrev pub BadInodesAreBad : Type 0
-BadInodesAreBad = (image : Image) (point : Checkpoint) (at : ℕ) (why : InodeFault) → IsFault point.extent (log_of image point) (BadInode at why) → IsBadInode image point at
+BadInodesAreBad = (image : Image) (ckpt : Checkpoint) (at : ℕ) (why : InodeFault) → IsFault ckpt.geom (log_of image ckpt) (BadInode at why) → IsBadInode image ckpt at
 
 abbrev pub OutOfZonesAreOut : Type 0
-OutOfZonesAreOut = (image : Image) (point : Checkpoint) (at : ℕ) → IsFault point.extent (log_of image point) (OutOfZone at) → IsOutOfZone image point at
+OutOfZonesAreOut = (image : Image) (ckpt : Checkpoint) (at : ℕ) → IsFault ckpt.geom (log_of image ckpt) (OutOfZone at) → IsOutOfZone image ckpt at

@@ -31,7 +31,7 @@ pub struct Start {
 /// `BadSuper` is told where neither copy of the superblock is right, as on a disk too small for any image, and
 /// `NoCheckpoint` where neither pack is valid. After any error the disk holds what it held, so the call can be made again.
 pub fn read_start<D: Disk>(alloc: Global, disk: &mut D) -> Result<Start, MountFault>
-    ensures start { IfOk result (λ start. (image : Image) → Tells (D.contents disk.old) image → (point : Checkpoint) × (IsCheckpoint image point × IsStartOf start point)) }
+    ensures start { IfOk result (λ start. (image : Image) → Tells (D.contents disk.old) image → (ckpt : Checkpoint) × (IsCheckpoint image ckpt × IsStartOf start ckpt)) }
     ensures fits { IfOk result (λ start. start.geometry.blocks ≤ (D.meter disk.old).blocks) }
     ensures log { IfOk result (λ start. IsTrue (is_in_node start.geometry start.pack.head.log_start)) }
     ensures fault { IfErr result (λ fault. (image : Image) → Tells (D.contents disk.old) image → IsStanding image fault) }

@@ -1,7 +1,7 @@
 //! The sizes of an image, by its superblock.
 ghost use Rattle.std.specs.Prelude.{◌≡◌, ◌<◌, ◌≤◌, Err, IfErr, IfNone, IfOk, IfSome};
 ghost use Rattle.f2_disk.specs.Meter.{HasFailed};
-ghost use Rattle.f2_format.specs.Superblock.{super_extent};
+ghost use Rattle.f2_format.specs.Superblock.{super_geom};
 ghost use Rattle.f2_image.specs.Images.{Image, block_at, IsRightCopy, IsSized};
 ghost use Rattle.f2_recover.specs.Told.{Tells, OnlyReads};
 ghost use Rattle.f2_start.specs.Starts.{IsStanding};
@@ -35,7 +35,7 @@ pub(crate) fn read_geometry<D: Disk>(alloc: Global, disk: &mut D) -> Result<Geom
 fn read_copy<D: Disk>(alloc: Global, disk: &mut D, at: u32) -> Result<Option<Geometry>, MountFault>
     requires { at < 128 }
     ensures right { IfOk result (λ found. IfSome found (λ geometry. (image : Image) → Tells (D.contents disk.old) image
-        → IsRightCopy image at × (geometry ≡ super_extent (block_at image at)))) }
+        → IsRightCopy image at × (geometry ≡ super_geom (block_at image at)))) }
     ensures wrong { IfOk result (λ found. IfNone found ((image : Image) → Tells (D.contents disk.old) image → ¬ (IsRightCopy image at))) }
     ensures fits { IfOk result (λ found. IfSome found (λ geometry. geometry.blocks ≤ (D.meter disk.old).blocks)) }
     ensures fault { IfErr result (λ fault. (image : Image) → IsStanding image fault) }

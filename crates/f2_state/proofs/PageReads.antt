@@ -4,7 +4,7 @@ use Rattle.std.specs.Prelude.{Option, Some, None, IsSome, IfSome, MatchOption, I
 use Rattle.std.specs.Option.{unwrap_or}
 use Rattle.std.specs.FinMap as map
 use Rattle.std.specs.FinSet as set
-use Rattle.f2_format.specs.Geometry.{Extent, is_in_data, data_start, data_third}
+use Rattle.f2_format.specs.Geometry.{ImageGeometry, is_in_data, data_start, data_third}
 use Rattle.f2_format.specs.Offsets.{page_limit}
 use Rattle.f2_disk.specs.Contents.{Contents, list_at, last_of}
 use Rattle.f2_image_laws.specs.Chained.{contents_at}
@@ -42,8 +42,8 @@ last_at (one ∷ rest) zero = refl
 last_at (one ∷ rest) (suc at) = last_at rest at
 
 -- no page stands at the address 0
-nowhere : (extent : Extent) → IsTrue (is_in_data extent 0) → ⊥
-nowhere extent is = (let low = low_end (data_start extent) (data_start extent + 3 * data_third extent) 0 is in omega (arith, low))
+nowhere : (geom : ImageGeometry) → IsTrue (is_in_data geom 0) → ⊥
+nowhere geom is = (let low = low_end (data_start geom) (data_start geom + 3 * data_third geom) 0 is in omega (arith, low))
   where
     low_end : (low high at : ℕ) → IsTrue (not (nat_lt at low) && nat_lt at high) → low ≤ at
     low_end low high at is = grind (arith, is)
@@ -106,7 +106,7 @@ module _ {D : Type 0} (lists : Contents) (volume : Seen D) (from : State) (stand
         by_address bytes has None placed some is = absurd (true≢false (sym some))
         by_address bytes has (Some at) placed some is =
             let here = (stands.kept quiet).live.pages ino page at placed (is_here bytes has) in
-            absurd (nowhere stands.layout.base.point.extent (subst (λ a. IsTrue (is_in_data stands.layout.base.point.extent a)) is here.in_zone))
+            absurd (nowhere stands.layout.base.ckpt.geom (subst (λ a. IsTrue (is_in_data stands.layout.base.ckpt.geom a)) is here.in_zone))
 
         by_page : (o : Option (List ℕ)) → map.get row.pages page ≡ o → zero_page ≡ page_of row.pages page
         by_page None none = sym (ap (λ o. unwrap_or o zero_page) none)

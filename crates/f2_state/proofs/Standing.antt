@@ -34,8 +34,8 @@ module _ {D : Type 0} (told : Option Contents) (volume : Seen D) (from : State) 
   pub proper_at : is_between from ≡ true → IsProperTree (image_limits volume.geometry) from.live
   proper_at quiet = subst_sizes (stands.stands.kept quiet).proper
     where
-      subst_sizes : IsProperTree (image_limits stands.stands.layout.base.point.extent) from.live → IsProperTree (image_limits volume.geometry) from.live
-      subst_sizes proper = subst (λ extent. IsProperTree (image_limits extent) from.live) stands.stands.sizes proper
+      subst_sizes : IsProperTree (image_limits stands.stands.layout.base.ckpt.geom) from.live → IsProperTree (image_limits volume.geometry) from.live
+      subst_sizes proper = subst (λ geom. IsProperTree (image_limits geom) from.live) stands.stands.sizes proper
 
   -- what a test of mode, history and calls in flight told
   pub told_by : (seat : ℕ) (found : Option Reply)

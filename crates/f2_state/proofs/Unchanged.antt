@@ -2,7 +2,7 @@
 use Rattle.std.proofs.Common.{◌≡◌, ◌≢◌, ◌⊎◌, inl, inr, ℕ, ◌<◌, ◌≤◌, List, refl, ap, sym, subst, ◌∙◌}
 use Rattle.std.specs.Prelude.{Option, Some, None, IfSome, Result, Ok, Err, OnOk, OnErr}
 use Rattle.std.specs.FinMap as map
-use Rattle.f2_format.specs.Geometry.{Extent}
+use Rattle.f2_format.specs.Geometry.{ImageGeometry}
 use Rattle.f2_disk.specs.Contents.{Contents, list_at, last_of}
 use Rattle.f2_disk.specs.Meter.{Meter}
 use Rattle.f2_disk.specs.Using.{OnlyReads}
@@ -82,9 +82,9 @@ module _ {D : Type 0} (contents : D → Option Contents) (meter : D → Meter) w
   -- and it is a volume still
   pub volume_still : (old new : Seen D) → IsVolume (meter old.disk).blocks (contents old.disk) old → OnlyLooks contents meter old new → IsVolume (meter new.disk).blocks (contents new.disk) new
   volume_still old new is looks = record {
-    held = subst (λ blocks. new.geometry.blocks ≤ blocks) (sym looks.reads.within.same_blocks) (subst (λ (extent : Extent). extent.blocks ≤ (meter old.disk).blocks) (sym (ap (λ (v : Seen D). v.geometry) looks.rest)) is.held);
+    held = subst (λ blocks. new.geometry.blocks ≤ blocks) (sym looks.reads.within.same_blocks) (subst (λ (geom : ImageGeometry). geom.blocks ≤ (meter old.disk).blocks) (sym (ap (λ (v : Seen D). v.geometry) looks.rest)) is.held);
     within = λ ino page at known.
-        subst (λ (extent : Extent). at < extent.blocks) (sym (ap (λ (v : Seen D). v.geometry) looks.rest))
+        subst (λ (geom : ImageGeometry). at < geom.blocks) (sym (ap (λ (v : Seen D). v.geometry) looks.rest))
         (is.within ino page at (sym (ap (λ (v : Seen D). address_in page (map.get v.files.shapes ino)) looks.rest) ∙ known));
     somewhere = somewhere (contents old.disk) (contents new.disk) (sym looks.reads.kept) is.somewhere looks.stands;
   }

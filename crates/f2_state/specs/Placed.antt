@@ -1,7 +1,7 @@
 -- The addresses of pages that a volume knows.
 use Rattle.std.specs.Prelude.{◌≡◌, ℕ, ◌<◌, Some}
 use Rattle.std.specs.FinMap as map
-use Rattle.f2_format.specs.Geometry.{Extent}
+use Rattle.f2_format.specs.Geometry.{ImageGeometry}
 use Rattle.f2_files.specs.Known.{Known}
 use Rattle.f2_files.specs.Shape.{address_in}
 use Rattle.f2_stored.specs.Places.{Places}
@@ -11,5 +11,5 @@ abbrev pub ArePagesPlaced : Known → Places → Type 0
 ArePagesPlaced known places = (ino page : ℕ) → address_in page (map.get known.shapes ino) ≡ map.get places.pages (ino, page)
 
 -- each address that the files know is within an image of these sizes
-abbrev pub ArePagesWithin : Extent → Known → Type 0
-ArePagesWithin extent known = (ino page at : ℕ) → address_in page (map.get known.shapes ino) ≡ Some at → at < extent.blocks
+abbrev pub ArePagesWithin : ImageGeometry → Known → Type 0
+ArePagesWithin geom known = (ino page at : ℕ) → address_in page (map.get known.shapes ino) ≡ Some at → at < geom.blocks

@@ -25,7 +25,7 @@ pub record StandsOn {D : Type 0} (lists : Contents) (volume : Seen D) (state : S
   pub unwritten : Unwritten
   pub stored : IsStored lists layout state
   pub kept : is_between state ≡ true → IsKept lists layout state places unwritten
-  pub sizes : layout.base.point.extent ≡ volume.geometry
+  pub sizes : layout.base.ckpt.geom ≡ volume.geometry
   pub known : IsKnownOf volume.files state
   pub placed : ArePagesPlaced volume.files places
   pub contents : AreContentsOf lists volume.files volume.pages state

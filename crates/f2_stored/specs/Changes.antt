@@ -20,10 +20,10 @@ Wrote lists at content new = IsWritten at content lists new ⊎ IsWriteFailed at
 
 -- an address at which a block is read for what an image stands for: of its checkpoint, its base and marks, or its node log and where that ends
 pub data IsReadOf (held : Reference) (at : ℕ) : Type 0 where
-  tells : TellsCheckpoint held.point at → IsReadOf held at
-  depends : DependsOn held.image held.point at → IsReadOf held at
-  logged : Contains (map_list (λ one. one.at) (chain held.image held.point)) at → IsReadOf held at
-  ends : (next : ℕ) → Follow held.point.head.log_start (chain held.image held.point) next → at ≡ next → IsReadOf held at
+  tells : TellsCheckpoint held.ckpt at → IsReadOf held at
+  depends : DependsOn held.image held.ckpt at → IsReadOf held at
+  logged : Contains (map_list (λ one. one.at) (chain held.image held.ckpt)) at → IsReadOf held at
+  ends : (next : ℕ) → Follow held.ckpt.head.log_start (chain held.image held.ckpt) next → at ≡ next → IsReadOf held at
 
 abbrev pub IsReadOfSome : Option Reference → ℕ → Type 0
 IsReadOfSome None at = ⊥
@@ -34,8 +34,8 @@ IsReadOfSome (Some held) at = IsReadOf held at
 pub record IsFree (layout : Layout) (at : ℕ) : Type 0 where
   pub base : ¬ (IsReadOf layout.base at)
   pub pending : ¬ (IsReadOfSome layout.pending at)
-  pub own_tail : at ≢ tail_address layout.base.point.side
-  pub other_tail : at ≢ tail_address (other_side layout.base.point.side)
+  pub own_tail : at ≢ tail_address layout.base.ckpt.side
+  pub other_tail : at ≢ tail_address (other_side layout.base.ckpt.side)
   pub no_position : ¬ (Contains (log_addresses layout) at)
   pub not_next : at ≢ layout.next
   pub no_owner : map.get layout.owners at ≡ None
@@ -44,8 +44,8 @@ pub record IsFree (layout : Layout) (at : ℕ) : Type 0 where
 -- one of a later version
 pub record MayBeWritten (layout : Layout) (at : ℕ) (content : List ℕ) : Type 0 where
   pub block : IsBlock content
-  pub node : IsTrue (is_in_node layout.base.point.extent at) → footer_version content ≡ 0
-  pub head : at ≡ head_address (other_side layout.base.point.side) → layout.base.point.head.version < (head_of content).version
+  pub node : IsTrue (is_in_node layout.base.ckpt.geom at) → footer_version content ≡ 0
+  pub head : at ≡ head_address (other_side layout.base.ckpt.side) → layout.base.ckpt.head.version < (head_of content).version
 
 -- two states of which a crash leaves the same
 pub record LeaveTheSame (one other : State) : Type 0 where

@@ -99,8 +99,8 @@ pub record IsKept (lists : Contents) (layout : Layout) (state : State) (places :
   pub packs : KeepsPacks lists layout state
   pub log : KeepsLog lists layout state
   pub none_pending : layout.pending ≡ None
-  pub proper : IsProperTree (image_limits layout.base.point.extent) state.live
-  pub live : IsLiveAt lists layout.base.point.extent state.live places unwritten
+  pub proper : IsProperTree (image_limits layout.base.ckpt.geom) state.live
+  pub live : IsLiveAt lists layout.base.ckpt.geom state.live places unwritten
   pub told : LogTellsLive layout state places
   pub tied : AreTied layout state places unwritten
   pub fsyncs : (seat ino : ℕ) (progress : Progress) → map.get state.flights seat ≡ Some (InFsync ino progress) → FsyncStands lists layout state places ino progress

@@ -21,7 +21,7 @@ pub record Position : Type 0 where
 -- an image that stands for a tree, and its checkpoint
 pub record Reference : Type 0 where
   pub image : Image
-  pub point : Checkpoint
+  pub ckpt : Checkpoint
 
 -- the nids of nodes, by ino and offset
 abbrev pub Nids : Type 0
@@ -51,4 +51,4 @@ chained layout = map_list (λ position. position.logged) layout.log
 
 -- the version that they carry
 abbrev pub log_version : Layout → ℕ
-log_version layout = recovery_version layout.base.point
+log_version layout = recovery_version layout.base.ckpt

@@ -22,7 +22,7 @@ pub data HasPage (lists : Contents) : ℕ → Option (List ℕ) → Type 0 where
 
 -- the address of a page of a marked row: in its inode or in the last block of its direct node up to the mark, else in the base's
 abbrev pub address_at : Layout → ℕ → ℕ → ℕ
-address_at layout place page = marked_address layout.base.image layout.base.point (chained layout) place page
+address_at layout place page = marked_address layout.base.image layout.base.ckpt (chained layout) place page
 
 -- the inode at a place of the log is that of a mark
 pub record HoldsMark (lists : Contents) (layout : Layout) (base : Rows) (place : ℕ) (mark : Mark) : Type 0 where
@@ -40,7 +40,7 @@ pub record HoldsMark (lists : Contents) (layout : Layout) (base : Rows) (place :
   pub within : (page : ℕ) (bytes : List ℕ) → map.get mark.row.pages page ≡ Some bytes → page < page_limit
   pub pages : (page : ℕ) → page < page_limit → HasPage lists (address_at layout place page) (map.get mark.row.pages page)
   pub owned : (page : ℕ) → page < page_limit → address_at layout place page ≢ 0 → map.get layout.owners (address_at layout place page) ≡ Some (mark.ino, page)
-  pub in_zone : (page : ℕ) → page < page_limit → address_at layout place page ≢ 0 → IsTrue (is_in_data layout.base.point.extent (address_at layout place page))
+  pub in_zone : (page : ℕ) → page < page_limit → address_at layout place page ≢ 0 → IsTrue (is_in_data layout.base.ckpt.geom (address_at layout place page))
 
 -- the marked blocks of the log are those of the marks, in their order
 abbrev pub HoldsMarks : Contents → Layout → Rows → List Mark → Type 0

@@ -11,7 +11,7 @@ use Rattle.f2_stored.specs.Layout.{Layout, chained}
 pub record IsNumbered (layout : Layout) (one : Logged) : Type 0 where
   pub nid : map.get layout.nids (footer_ino one.block, footer_offset one.block) ≡ Some (footer_nid one.block)
   pub least : 4 ≤ footer_nid one.block
-  pub most : footer_nid one.block < nid_limit layout.base.point.extent
+  pub most : footer_nid one.block < nid_limit layout.base.ckpt.geom
   pub inode : footer_offset one.block ≡ 0 → footer_nid one.block ≡ footer_ino one.block
   pub shape : ((footer_offset one.block ≡ 0) × IsTrue (has_fsync_mark one.block)) ⊎ IsDirect (footer_offset one.block)
 
@@ -30,11 +30,11 @@ MayCount layout ino = (place : ℕ) → place < length (chained layout) → foot
 -- each node of the base, and each of the log whose block counts, has one nid, and no other node has it; of a block that doesn't count, as of
 -- a file that went since and has no mark, no recovery asks
 pub record HasNids (layout : Layout) : Type 0 where
-  pub base : (ino offset nid : ℕ) → IsNode layout.base.image layout.base.point ino offset nid → map.get layout.nids (ino, offset) ≡ Some nid
+  pub base : (ino offset nid : ℕ) → IsNode layout.base.image layout.base.ckpt ino offset nid → map.get layout.nids (ino, offset) ≡ Some nid
   pub log : (place : ℕ) → place < length (chained layout) → CountsAt (chained layout) place → IsNumbered layout (slice_index_or (chained layout) place no_block)
   pub differ : (one other : ℕ × ℕ) (nid : ℕ) → map.get layout.nids one ≡ Some nid → map.get layout.nids other ≡ Some nid → one ≡ other
 
 -- each data block of the base has its owner, and all that have one fit two thirds of their zone
 pub record HasOwners (layout : Layout) : Type 0 where
-  pub base : (ino page at : ℕ) → IsBasePage layout.base.image layout.base.point ino page at → map.get layout.owners at ≡ Some (ino, page)
-  pub few : map.len layout.owners ≤ 2 * data_third layout.base.point.extent
+  pub base : (ino page at : ℕ) → IsBasePage layout.base.image layout.base.ckpt ino page at → map.get layout.owners at ≡ Some (ino, page)
+  pub few : map.len layout.owners ≤ 2 * data_third layout.base.ckpt.geom

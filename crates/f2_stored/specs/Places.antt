@@ -4,7 +4,7 @@ use Rattle.std.specs.List.{slice_get}
 use Rattle.std.specs.Option.{unwrap_or}
 use Rattle.std.specs.FinMap as map
 use Rattle.f2_format.specs.Offsets.{inode_pages, page_limit, direct_of, direct_slot}
-use Rattle.f2_format.specs.Geometry.{Extent, node_third, data_third, nid_limit}
+use Rattle.f2_format.specs.Geometry.{ImageGeometry, node_third, data_third, nid_limit}
 use Rattle.f2_format.specs.Footer.{footer_nid, footer_ino, footer_offset}
 use Rattle.f2_format.specs.Inode.{inode_of, node_word}
 use Rattle.f2_format.specs.Dentry.{Dentry, dentry_fault, dentries_of}
@@ -77,10 +77,10 @@ pub record IsNamedAbove (places : Places) (ino offset : ℕ) : Type 0 where
   pub there : IsSome (map.get places.nodes (ino, upper))
 
 -- a node of a row of the tree has a nid that it may have
-pub record IsNodePlaced (extent : Extent) (tree : Rows) (places : Places) (ino offset : ℕ) (node : NodeAt) : Type 0 where
+pub record IsNodePlaced (geom : ImageGeometry) (tree : Rows) (places : Places) (ino offset : ℕ) (node : NodeAt) : Type 0 where
   pub row : IsSome (map.get tree ino)
   pub least : (4 ≤ node.nid) ⊎ ((ino ≡ ROOT) × (offset ≡ 0))
-  pub most : node.nid < nid_limit extent
+  pub most : node.nid < nid_limit geom
   pub inode : offset ≡ 0 → node.nid ≡ ino
   pub above : offset ≢ 0 → IsNamedAbove places ino offset
 
@@ -92,16 +92,16 @@ pub record IsPagePlaced (tree : Rows) (places : Places) (ino page : ℕ) : Type 
 
 -- a tree has places: nodes with nids of their own, pages, names in the pages of directories, and no more of them than an image grants;
 -- where an address is known no other node or page has it
-pub record HasPlaces (extent : Extent) (tree : Rows) (places : Places) : Type 0 where
-  pub nodes : (ino offset : ℕ) (node : NodeAt) → map.get places.nodes (ino, offset) ≡ Some node → IsNodePlaced extent tree places ino offset node
+pub record HasPlaces (geom : ImageGeometry) (tree : Rows) (places : Places) : Type 0 where
+  pub nodes : (ino offset : ℕ) (node : NodeAt) → map.get places.nodes (ino, offset) ≡ Some node → IsNodePlaced geom tree places ino offset node
   pub nids_apart : (one other : ℕ × ℕ) (a b : NodeAt) → map.get places.nodes one ≡ Some a → map.get places.nodes other ≡ Some b → a.nid ≡ b.nid → one ≡ other
   pub nodes_apart : (one other : ℕ × ℕ) (a b : NodeAt) → map.get places.nodes one ≡ Some a → map.get places.nodes other ≡ Some b → a.at ≢ 0 → a.at ≡ b.at → one ≡ other
   pub pages : (ino page at : ℕ) → map.get places.pages (ino, page) ≡ Some at → IsPagePlaced tree places ino page
   pub pages_apart : (one other : ℕ × ℕ) (at : ℕ) → map.get places.pages one ≡ Some at → map.get places.pages other ≡ Some at → at ≢ 0 → one ≡ other
   pub inodes : (ino : ℕ) (row : Row) → map.get tree ino ≡ Some row → IsSome (map.get places.nodes (ino, 0))
   pub names : (ino : ℕ) (row : Row) → map.get tree ino ≡ Some row → row.kind ≡ Directory → HasNames tree places ino
-  pub few_nodes : map.len places.nodes ≤ node_third extent
-  pub few_pages : map.len places.pages ≤ data_third extent
+  pub few_nodes : map.len places.nodes ≤ node_third geom
+  pub few_pages : map.len places.pages ≤ data_third geom
 
 -- a block is that of a node: it has its footer, the nids of the nodes below it and the addresses of its pages
 pub record IsNodeBlock (places : Places) (ino offset : ℕ) (node : NodeAt) (block : List ℕ) : Type 0 where

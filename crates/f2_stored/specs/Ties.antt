@@ -15,7 +15,7 @@ use Rattle.f2_stored.specs.Places.{Places, page_at}
 -- the log, else in the base's
 abbrev pub told_address : Layout → ℕ → ℕ → ℕ → ℕ
 told_address layout ino offset page =
-    word_of (or_below (last_before (chained layout) (length (chained layout)) ino offset) (base_direct layout.base.image layout.base.point (node layout.base.image layout.base.point ino) page)) (direct_slot page)
+    word_of (or_below (last_before (chained layout) (length (chained layout)) ino offset) (base_direct layout.base.image layout.base.ckpt (node layout.base.image layout.base.ckpt ino) page)) (direct_slot page)
 
 -- it is the page's place, for each file that lost no direct node since the base and each of its direct nodes that isn't dirty
 pub record LogTellsLive (layout : Layout) (state : State) (places : Places) : Type 0 where

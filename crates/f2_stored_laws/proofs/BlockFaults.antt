@@ -48,14 +48,14 @@ module _ (lists : Contents) (layout : Layout) (state : State) (image : Image) (p
       (at_place (IsLogAddress layout) (log_addresses layout) place 0 part.keeps.log.addresses (subst (λ n. place < n) (sym (length-map (chained layout) (λ one. one.at))) small))
 
   -- the mark of a marked page, and the page's address
-  page_mark : (ino page at : ℕ) (is : IsMarkedPage image layout.base.point ino page at) → MarkAt lists layout state image part is.place is.inode
+  page_mark : (ino page at : ℕ) (is : IsMarkedPage image layout.base.ckpt ino page at) → MarkAt lists layout state image part is.place is.inode
   page_mark ino page at is = mark_at lists layout state image part is.place is.inode is.marked
 
-  page_address : (ino page at : ℕ) (is : IsMarkedPage image layout.base.point ino page at) → address_at layout is.place page ≡ at
+  page_address : (ino page at : ℕ) (is : IsMarkedPage image layout.base.ckpt ino page at) → address_at layout is.place page ≡ at
   page_address ino page at is = sym (address_same lists layout state image part is.place page (page_mark ino page at is).small) ∙ is.address
 
   -- the owner of a data block
-  pub owner_of : (ino page at : ℕ) → IsPage image layout.base.point ino page at → map.get layout.owners at ≡ Some (ino, page)
+  pub owner_of : (ino page at : ℕ) → IsPage image layout.base.ckpt ino page at → map.get layout.owners at ≡ Some (ino, page)
   owner_of ino page at (inl is) = part.keeps.owners.base ino page at (part.alike.back.page ino page at is)
   owner_of ino page at (inr is) =
       let mark = page_mark ino page at is in
@@ -63,7 +63,7 @@ module _ (lists : Contents) (layout : Layout) (state : State) (image : Image) (p
       ap (map.get layout.owners) (sym address) ∙ mark.holds.owned page is.within (λ none. is.there (sym address ∙ none))
       ∙ ap (λ n. Some (n, page)) (mark_ino lists layout state image part is.place is.inode mark ∙ is.own)
 
-  pub no_long_chain : (at : ℕ) → IsChainLong image layout.base.point at → ⊥
+  pub no_long_chain : (at : ℕ) → IsChainLong image layout.base.ckpt at → ⊥
   no_long_chain at long =
       let many = long.0 in
       let same = chain_length lists layout state image part in
@@ -72,16 +72,16 @@ module _ (lists : Contents) (layout : Layout) (state : State) (image : Image) (p
       let short = part.keeps.log.short in
       absurd (omega (arith, many, same, within, log, short))
 
-  is_in_zone : (at : ℕ) → IsTrue (is_in_node layout.base.point.extent at) → is_in_node layout.base.point.extent at ≡ false → ⊥
+  is_in_zone : (at : ℕ) → IsTrue (is_in_node layout.base.ckpt.geom at) → is_in_node layout.base.ckpt.geom at ≡ false → ⊥
   is_in_zone at zone out = absurd (true≢false (sym zone ∙ out))
 
-  pub none_out_of_zone : (at : ℕ) → IsOutOfZone image layout.base.point at → ⊥
+  pub none_out_of_zone : (at : ℕ) → IsOutOfZone image layout.base.ckpt at → ⊥
   none_out_of_zone at (faults.page table ino page (inl is) out) = part.keeps.base.means.sound OutOfZone at out_of_zone (faults.page table ino page (inl (part.alike.back.page ino page at is)) out)
   none_out_of_zone at (faults.page table ino page (inr is) out) =
       let address = page_address ino page at is in
       let zone = (page_mark ino page at is).holds.in_zone page is.within (λ none. is.there (sym address ∙ none)) in
-      absurd (true≢false (sym zone ∙ ap (is_in_data layout.base.point.extent) address ∙ out))
-  none_out_of_zone at (faults.next place small is there out) = by_next (follow_next layout.base.point.head.log_start (chained layout) layout.next place part.keeps.log.linked.follow (in_log lists layout state image part place within))
+      absurd (true≢false (sym zone ∙ ap (is_in_data layout.base.ckpt.geom) address ∙ out))
+  none_out_of_zone at (faults.next place small is there out) = by_next (follow_next layout.base.ckpt.head.log_start (chained layout) layout.next place part.keeps.log.linked.follow (in_log lists layout state image part place within))
     where
       within : place < part.count
       within = in_part lists layout state image part place small
@@ -92,10 +92,10 @@ module _ (lists : Contents) (layout : Layout) (state : State) (image : Image) (p
       by_next : (footer_next (block_in (chained layout) place) ≡ layout.next) ⊎ ((later : ℕ) × (later < length (chained layout)) × (footer_next (block_in (chained layout) place) ≡ (slice_index_or (chained layout) later no_block).at)) → ⊥
       by_next (inl ends) =
           let next : layout.next ≡ at = sym ends ∙ named in
-          is_in_zone at (subst (λ n. IsTrue (is_in_node layout.base.point.extent n)) next (part.keeps.log.next (λ none. there (sym next ∙ none))).0) out
-      by_next (inr (later, few, one)) = is_in_zone at (subst (λ n. IsTrue (is_in_node layout.base.point.extent n)) (sym one ∙ named) (log_address later few).0) out
+          is_in_zone at (subst (λ n. IsTrue (is_in_node layout.base.ckpt.geom n)) next (part.keeps.log.next (λ none. there (sym next ∙ none))).0) out
+      by_next (inr (later, few, one)) = is_in_zone at (subst (λ n. IsTrue (is_in_node layout.base.ckpt.geom n)) (sym one ∙ named) (log_address later few).0) out
 
-  pub none_shared : (at : ℕ) → HasTable layout.base.point → IsShared image layout.base.point at → ⊥
+  pub none_shared : (at : ℕ) → HasTable layout.base.ckpt → IsShared image layout.base.ckpt at → ⊥
   none_shared at table (faults.pages ino page other more is too differ) = by_part differ
     where
       same : (ino ≡ other) × (page ≡ more)

@@ -23,7 +23,7 @@ use Rattle.f2_stored_laws.proofs.Flushed.{flushed_at, flushed_each, flushed_whol
 
 -- where an image is all that is known
 layout_of : Image → Checkpoint → Layout
-layout_of image point = record { base = record { image = image; point = point }; pending = None; log = []; settled = 0; next = 0; nids = map.empty; owners = map.empty }
+layout_of image ckpt = record { base = record { image = image; ckpt = ckpt }; pending = None; log = []; settled = 0; next = 0; nids = map.empty; owners = map.empty }
 
 behind_of : (image : Image) (side : Side) (newest : ℕ) → version_of image side ≡ newest → GoesBefore image side → IsBehind side (version_of image (other_side side)) newest
 behind_of image A newest is first = subst (λ n. version_of image B ≤ n) is first
@@ -34,21 +34,21 @@ module _ (lists : Contents) (state : State) (whole : IsWhole (length lists) list
   image = latest lists
 
   layout : Layout
-  layout = layout_of image left.point
+  layout = layout_of image left.ckpt
 
-  packs : HasPacks (flushed lists) (record { image = image; point = left.point }) None
+  packs : HasPacks (flushed lists) (record { image = image; ckpt = left.ckpt }) None
   unfolding image
   packs =
-      let side = left.point.side in
+      let side = left.ckpt.side in
       record {
         own = flushed_at lists (tail_address side);
-        not_later = flushed_each lists (λ tail. ((head_of tail).version ≤ left.point.head.version) ⊎ IsPendingTail None tail) (tail_address (other_side side)) (inl (left.clean.tails (other_side side)));
+        not_later = flushed_each lists (λ tail. ((head_of tail).version ≤ left.ckpt.head.version) ⊎ IsPendingTail None tail) (tail_address (other_side side)) (inl (left.clean.tails (other_side side)));
         behind = λ head tail has_head has_tail pack.
             let head_is = only (head_address (other_side side)) head has_head in
             let tail_is = only (tail_address (other_side side)) tail has_tail in
-            inl (subst (λ block. IsBehind side (head_of block).version left.point.head.version) (sym head_is)
-            (behind_of image side left.point.head.version (ap (λ head. head.version) (sym left.means.checkpoint.head))
-            (left.means.checkpoint.newest.newest (subst₂ (IsPack left.point.extent) head_is tail_is pack))));
+            inl (subst (λ block. IsBehind side (head_of block).version left.ckpt.head.version) (sym head_is)
+            (behind_of image side left.ckpt.head.version (ap (λ head. head.version) (sym left.means.checkpoint.head))
+            (left.means.checkpoint.newest.newest (subst₂ (IsPack left.ckpt.geom) head_is tail_is pack))));
       }
     where
       only_one : (content block : List ℕ) → Contains (content ∷ []) block → block ≡ content
@@ -59,19 +59,19 @@ module _ (lists : Contents) (state : State) (whole : IsWhole (length lists) list
       only at content has = only_one (block_at (latest lists) at) content (subst (λ list. Contains list content) (flushed_at lists at) has)
 
   -- its version may be followed by one more
-  early : state.version + 1 < 2 ^ 32 → left.point.head.version < 2 ^ 32
+  early : state.version + 1 < 2 ^ 32 → left.ckpt.head.version < 2 ^ 32
   early more = by_case left.remains
     where
-      by_case : MayRemain state left.meaning → left.point.head.version < 2 ^ 32
-      by_case (inl (place, from, to, is)) = let same : left.point.head.version ≡ state.version = left.version ∙ ap (λ m. m.version) is in omega (arith, same, more)
-      by_case (inr (tree, pending, is)) = let same : left.point.head.version ≡ state.version + 1 = left.version ∙ ap (λ m. m.version) is in omega (arith, same, more)
+      by_case : MayRemain state left.meaning → left.ckpt.head.version < 2 ^ 32
+      by_case (inl (place, from, to, is)) = let same : left.ckpt.head.version ≡ state.version = left.version ∙ ap (λ m. m.version) is in omega (arith, same, more)
+      by_case (inr (tree, pending, is)) = let same : left.ckpt.head.version ≡ state.version + 1 = left.version ∙ ap (λ m. m.version) is in omega (arith, same, more)
 
   keeps_packs : state.version + 1 < 2 ^ 32 → KeepsPacks (flushed lists) layout (mounting state left.meaning)
   unfolding image layout layout_of
   keeps_packs more = record {
     whole = flushed_whole lists whole;
     packs = packs;
-    no_later = λ at zone. flushed_each lists (λ content. footer_version content % 2 ^ 32 ≤ left.point.head.version) at (left.clean.nodes at zone);
+    no_later = λ at zone. flushed_each lists (λ content. footer_version content % 2 ^ 32 ≤ left.ckpt.head.version) at (left.clean.nodes at zone);
     pending = tt;
     format = left.format;
     next_format = tt;
@@ -88,7 +88,7 @@ module _ (lists : Contents) (state : State) (whole : IsWhole (length lists) list
       tells = λ at tells. flushed_at lists at;
       read = λ at needs. flushed_at lists at;
     };
-    log = λ place one small. flushed_at lists (slice_index_or (chain (latest lists) left.point) place one).at;
+    log = λ place one small. flushed_at lists (slice_index_or (chain (latest lists) left.ckpt) place one).at;
     ends = λ next follow there. flushed_at lists next;
     acknowledged = omega arith;
   }

@@ -60,18 +60,18 @@ module _ (lists : Contents) (image : Image) (is : IsImage lists image) (held : I
   same_from (suc most) at kept = same_step most at (same_from most) kept
 
 module _ (lists : Contents) (layout : Layout) (state : State) (packs : KeepsPacks lists layout state) (keeps : KeepsImage lists layout state) (image : Image) (is : IsImage lists image) where
-  same_chain : chain image layout.base.point ≡ chain layout.base.image layout.base.point
+  same_chain : chain image layout.base.ckpt ≡ chain layout.base.image layout.base.ckpt
   unfolding chain
-  same_chain = same_from lists image is layout.base.image (recovery_version layout.base.point) (node_third layout.base.point.extent + 1) layout.base.point.head.log_start (keeps.log, keeps.ends)
+  same_chain = same_from lists image is layout.base.image (recovery_version layout.base.ckpt) (node_third layout.base.ckpt.geom + 1) layout.base.ckpt.head.log_start (keeps.log, keeps.ends)
 
   -- such an image stands for the base and all marks
-  pub found_left : ¬ (IsPendingTail layout.pending (block_at image (tail_address (other_side layout.base.point.side)))) → IsLeft state image
+  pub found_left : ¬ (IsPendingTail layout.pending (block_at image (tail_address (other_side layout.base.ckpt.side)))) → IsLeft state image
   found_left none = record {
-    point = layout.base.point;
+    ckpt = layout.base.ckpt;
     meaning = base_up_to state (length state.marks);
     remains = inl (length state.marks, keeps.acknowledged, omega arith, refl);
-    means = subst (MeansAt image layout.base.point state.base) (sym (take_all (length state.marks) state.marks (omega arith)))
-        (same_meaning layout.base.image image layout.base.point state.base state.marks keeps.base.means (base_counts lists image is layout.base state.base state.marks keeps.base layout.pending packs.packs none) same_chain
+    means = subst (MeansAt image layout.base.ckpt state.base) (sym (take_all (length state.marks) state.marks (omega arith)))
+        (same_meaning layout.base.image image layout.base.ckpt state.base state.marks keeps.base.means (base_counts lists image is layout.base state.base state.marks keeps.base layout.pending packs.packs none) same_chain
         (λ at needs. one_content lists image is layout.base.image at (keeps.base.read at needs)));
     version = packs.version;
     format = packs.format;

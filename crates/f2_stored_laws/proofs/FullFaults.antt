@@ -34,35 +34,35 @@ more_weaker {X = X} P Q weaker most has = record { some = has.some; differ = has
 
 module _ (lists : Contents) (layout : Layout) (state : State) (image : Image) (part : HasPart lists layout state image) where
   -- the tree of the image, and what it takes
-  tree_is : (tree : Rows) → HasTree image layout.base.point tree → rolled state.base (take (kept lists layout state image part) state.marks) ≡ tree
+  tree_is : (tree : Rows) → HasTree image layout.base.ckpt tree → rolled state.base (take (kept lists layout state image part) state.marks) ≡ tree
   tree_is tree has =
-      let base = one_base image layout.base.point state.base has.base (base_meant lists layout state image part) has.is_base in
-      let marks = one_list_of_marks image layout.base.point state.base (take (kept lists layout state image part) state.marks) has.marks (marks_meant lists layout state image part)
-      (subst (λ tree. AreMarks image layout.base.point tree has.marks) (sym base) has.are_marks) in
+      let base = one_base image layout.base.ckpt state.base has.base (base_meant lists layout state image part) has.is_base in
+      let marks = one_list_of_marks image layout.base.ckpt state.base (take (kept lists layout state image part) state.marks) has.marks (marks_meant lists layout state image part)
+      (subst (λ tree. AreMarks image layout.base.ckpt tree has.marks) (sym base) has.are_marks) in
       (λ i. rolled (base i) (marks i)) ∙ sym has.is
 
-  proper : (tree : Rows) → HasTree image layout.base.point tree → IsProperTree (image_limits layout.base.point.extent) tree
+  proper : (tree : Rows) → HasTree image layout.base.ckpt tree → IsProperTree (image_limits layout.base.ckpt.geom) tree
   proper tree has =
-      subst (IsProperTree (image_limits layout.base.point.extent)) (tree_is tree has)
+      subst (IsProperTree (image_limits layout.base.ckpt.geom)) (tree_is tree has)
       (part.keeps.fitting.trees (kept lists layout state image part) (acknowledged_kept lists layout state image part) (kept_marks lists layout state image part).1)
 
-  all_keys : (some : List ℕ) → AllByRecursion (IsSomeBlock image layout.base.point) some → AllByRecursion (IsKey layout.owners) some
+  all_keys : (some : List ℕ) → AllByRecursion (IsSomeBlock image layout.base.ckpt) some → AllByRecursion (IsKey layout.owners) some
   all_keys [] all = tt
   all_keys (at ∷ some) all = let one = all.0 in (((one.0, one.1), owner_of lists layout state image part one.0 one.1 at one.2), all_keys some all.1)
 
-  pub not_too_full : (limit : ℕ) → HasTable layout.base.point → IsTooFull image layout.base.point limit → ⊥
+  pub not_too_full : (limit : ℕ) → HasTable layout.base.ckpt → IsTooFull image layout.base.ckpt limit → ⊥
   not_too_full limit table (faults.base_nodes is many) =
       part.keeps.base.means.sound TooFull limit too_full (
         table,
-        faults.base_nodes is (more_weaker (IsSomeNode image layout.base.point) (IsSomeNode layout.base.image layout.base.point) (λ at has. (has.0, part.alike.back.node at.0 at.1 has.0 has.1)) limit many),
+        faults.base_nodes is (more_weaker (IsSomeNode image layout.base.ckpt) (IsSomeNode layout.base.image layout.base.ckpt) (λ at has. (has.0, part.alike.back.node at.0 at.1 has.0 has.1)) limit many),
       )
   not_too_full limit table (faults.base_blocks is many) =
       part.keeps.base.means.sound TooFull limit too_full (
         table,
-        faults.base_blocks is (more_weaker (IsBaseBlock image layout.base.point) (IsBaseBlock layout.base.image layout.base.point) (λ at has. (has.0, has.1, part.alike.back.page has.0 has.1 at has.2)) limit many),
+        faults.base_blocks is (more_weaker (IsBaseBlock image layout.base.ckpt) (IsBaseBlock layout.base.image layout.base.ckpt) (λ at has. (has.0, has.1, part.alike.back.page has.0 has.1 at has.2)) limit many),
       )
-  not_too_full limit table (faults.tree_nodes tree has is many) = let few : nodes_of_tree tree ≤ node_third layout.base.point.extent = (proper tree has).nodes in absurd (omega (arith, few, is, many))
-  not_too_full limit table (faults.tree_blocks tree has is many) = let few : data_of_tree tree ≤ data_third layout.base.point.extent = (proper tree has).data_blocks in absurd (omega (arith, few, is, many))
+  not_too_full limit table (faults.tree_nodes tree has is many) = let few : nodes_of_tree tree ≤ node_third layout.base.ckpt.geom = (proper tree has).nodes in absurd (omega (arith, few, is, many))
+  not_too_full limit table (faults.tree_blocks tree has is many) = let few : data_of_tree tree ≤ data_third layout.base.ckpt.geom = (proper tree has).data_blocks in absurd (omega (arith, few, is, many))
   not_too_full limit table (faults.all_blocks is many) =
       let few = no_more_keys layout.owners many.some many.differ (all_keys many.some many.all) in
       let most = part.keeps.owners.few in

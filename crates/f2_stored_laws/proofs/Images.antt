@@ -2,8 +2,8 @@
 use Rattle.std.proofs.Common.{◌≡◌, ℕ, zero, suc, ◌<◌, ◌≤◌, ◌-◌, List, [], ◌∷◌, length, All, Contains, refl, sym, ap, ◌∙◌, subst, arith}
 use Rattle.std.proofs.lemmas.List.Elements.{All-contains, All-head, All-tail, Contains-get_or}
 use Rattle.std.proofs.lemmas.Slice.Zip.{AllZip-long}
-use Rattle.f2_format.specs.Geometry.{Extent}
-use Rattle.f2_format.specs.Superblock.{super_extent, IsSuper}
+use Rattle.f2_format.specs.Geometry.{ImageGeometry}
+use Rattle.f2_format.specs.Superblock.{super_geom, IsSuper}
 use Rattle.f2_disk.specs.Contents.{Contents, IsImage, last_of, latest}
 use Rattle.f2_image.specs.Images.{Image, block_at, IsRightCopy, IsSized}
 use Rattle.f2_image.specs.Images as images
@@ -49,11 +49,11 @@ module _ (lists : Contents) (image : Image) (is : IsImage lists image) where
   as_long = AllZip-long Contains lists image is
 
 -- images that are equally long and have the same first two blocks have the same sizes
-pub same_sizes : (image other : Image) (extent : Extent) → length other ≡ length image → ((at : ℕ) → at ≤ 1 → block_at other at ≡ block_at image at) → IsSized image extent → IsSized other extent
-same_sizes image other extent long same (images.by_first right is) =
-    images.by_first (subst (IsSuper (block_at other 0)) (sym long) (subst (λ block. IsSuper block (length image)) (sym (same 0 (omega arith))) right)) (is ∙ ap super_extent (sym (same 0 (omega arith))))
-same_sizes image other extent long same (images.by_second wrong right is) =
+pub same_sizes : (image other : Image) (geom : ImageGeometry) → length other ≡ length image → ((at : ℕ) → at ≤ 1 → block_at other at ≡ block_at image at) → IsSized image geom → IsSized other geom
+same_sizes image other geom long same (images.by_first right is) =
+    images.by_first (subst (IsSuper (block_at other 0)) (sym long) (subst (λ block. IsSuper block (length image)) (sym (same 0 (omega arith))) right)) (is ∙ ap super_geom (sym (same 0 (omega arith))))
+same_sizes image other geom long same (images.by_second wrong right is) =
     images.by_second
     (λ copy. wrong (subst (IsSuper (block_at image 0)) long (subst (λ block. IsSuper block (length other)) (same 0 (omega arith)) copy)))
     (subst (IsSuper (block_at other 1)) (sym long) (subst (λ block. IsSuper block (length image)) (sym (same 1 (omega arith))) right))
-    (is ∙ ap super_extent (sym (same 1 (omega arith))))
+    (is ∙ ap super_geom (sym (same 1 (omega arith))))

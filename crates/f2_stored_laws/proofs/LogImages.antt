@@ -28,8 +28,8 @@ pub record HasPart (lists : Contents) (layout : Layout) (state : State) (image :
   pub count : ℕ
   pub within : count ≤ length (chained layout)
   pub settled : layout.settled ≤ count
-  pub chain : chain image layout.base.point ≡ take count (chained layout)
-  pub alike : ReadAlike layout.base.image image layout.base.point
+  pub chain : chain image layout.base.ckpt ≡ take count (chained layout)
+  pub alike : ReadAlike layout.base.image image layout.base.ckpt
 
 pub log_length : (layout : Layout) → length (chained layout) ≡ length layout.log
 log_length layout = length-map layout.log (λ position. position.logged)
@@ -41,7 +41,7 @@ has_part lists layout state image keeps is =
     let long = log_length layout in
     let short = log.short in
     let few = log.within in
-    let part = chain_is_first_part lists image is (log_version layout) layout.base.point.head.log_start layout.next (node_third layout.base.point.extent + 1) (chained layout) log.linked (omega (arith, long, short)) in
+    let part = chain_is_first_part lists image is (log_version layout) layout.base.ckpt.head.log_start layout.next (node_third layout.base.ckpt.geom + 1) (chained layout) log.linked (omega (arith, long, short)) in
     record {
       keeps = keeps;
       is = is;
@@ -49,33 +49,33 @@ has_part lists layout state image keeps is =
       within = part.within;
       settled = part.alone layout.settled (omega (arith, few, long)) log.settled;
       chain = part.is;
-      alike = read_alike layout.base.image image layout.base.point keeps.base.means.sound (λ at needs. one_content lists image is layout.base.image at (keeps.base.read at needs));
+      alike = read_alike layout.base.image image layout.base.ckpt keeps.base.means.sound (λ at needs. one_content lists image is layout.base.image at (keeps.base.read at needs));
     }
 
 module _ (lists : Contents) (layout : Layout) (state : State) (image : Image) (part : HasPart lists layout state image) where
-  pub chain_length : length (chain image layout.base.point) ≡ part.count
+  pub chain_length : length (chain image layout.base.ckpt) ≡ part.count
   chain_length = ap length part.chain ∙ length-take-le part.count (chained layout) part.within
 
   -- a place of the chain is one of the log, with the same block
-  pub in_part : (place : ℕ) → place < length (chain image layout.base.point) → place < part.count
+  pub in_part : (place : ℕ) → place < length (chain image layout.base.ckpt) → place < part.count
   in_part place small = subst (λ n. place < n) chain_length small
 
   pub in_log : (place : ℕ) → place < part.count → place < length (chained layout)
   in_log place small = let within = part.within in omega (arith, small, within)
 
-  pub logged_same : (place : ℕ) → place < part.count → slice_index_or (chain image layout.base.point) place no_block ≡ slice_index_or (chained layout) place no_block
+  pub logged_same : (place : ℕ) → place < part.count → slice_index_or (chain image layout.base.ckpt) place no_block ≡ slice_index_or (chained layout) place no_block
   logged_same place small = ap (λ log. slice_index_or log place no_block) part.chain ∙ get_or-take part.count (chained layout) place no_block small
 
-  pub block_same : (place : ℕ) → place < part.count → block_in (chain image layout.base.point) place ≡ block_in (chained layout) place
+  pub block_same : (place : ℕ) → place < part.count → block_in (chain image layout.base.ckpt) place ≡ block_in (chained layout) place
   block_same place small = ap (λ one. one.block) (logged_same place small)
 
   -- a block that recovery takes is of the log
-  pub taken_in : (place : ℕ) (block : List ℕ) → IsTaken image layout.base.point place block → (place < part.count) × (block ≡ block_in (chained layout) place)
+  pub taken_in : (place : ℕ) (block : List ℕ) → IsTaken image layout.base.ckpt place block → (place < part.count) × (block ≡ block_in (chained layout) place)
   taken_in place block (reached.marked is) = (in_part place is.within, is.stands ∙ block_same place (in_part place is.within))
   taken_in place block (reached.direct is direct) = let below = in_part is.mark is.marked.within in let later = is.later in let small : place < part.count = omega (arith, below, later) in (small, is.stands ∙ block_same place small)
 
   -- a block that recovery takes counts in the log
-  pub counts_in : (place : ℕ) (block : List ℕ) → IsTaken image layout.base.point place block → CountsAt (chained layout) place
+  pub counts_in : (place : ℕ) (block : List ℕ) → IsTaken image layout.base.ckpt place block → CountsAt (chained layout) place
   counts_in place block (reached.marked is) =
       let small = in_part place is.within in
       record {
@@ -97,9 +97,9 @@ module _ (lists : Contents) (layout : Layout) (state : State) (image : Image) (p
       }
 
   -- the address of a page of a marked block
-  pub address_same : (place page : ℕ) → place < part.count → marked_address image layout.base.point (chain image layout.base.point) place page ≡ address_at layout place page
+  pub address_same : (place page : ℕ) → place < part.count → marked_address image layout.base.ckpt (chain image layout.base.ckpt) place page ≡ address_at layout place page
   address_same place page small =
-      ap (λ log. marked_address image layout.base.point log place page) part.chain ∙ address_of_part (chained layout) part.count image layout.base.point place page small
+      ap (λ log. marked_address image layout.base.ckpt log place page) part.chain ∙ address_of_part (chained layout) part.count image layout.base.ckpt place page small
       ∙ part.alike.marked_addresses (chained layout) place page
 
   -- the marks of the image are the first ones
@@ -125,7 +125,7 @@ module _ (lists : Contents) (layout : Layout) (state : State) (image : Image) (p
     pub among : Contains state.marks mark
     pub holds : HoldsMark lists layout state.base place mark
 
-  pub mark_at : (place : ℕ) (block : List ℕ) → IsMarkedAt image layout.base.point place block → MarkAt place block
+  pub mark_at : (place : ℕ) (block : List ℕ) → IsMarkedAt image layout.base.ckpt place block → MarkAt place block
   mark_at place block is =
       let small = in_part place is.within in
       let stands = is.stands ∙ block_same place small in

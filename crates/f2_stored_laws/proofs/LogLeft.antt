@@ -19,10 +19,10 @@ use Rattle.f2_stored_laws.proofs.NameFaults.{no_conflict, no_lost_parent}
 use Rattle.f2_stored_laws.proofs.TreeFaults.{no_bad_tree}
 use Rattle.f2_stored_laws.proofs.FullFaults.{not_too_full}
 
-sound_part : (lists : Contents) (layout : Layout) (state : State) (image : Image) → HasPart lists layout state image → IsSound image layout.base.point
+sound_part : (lists : Contents) (layout : Layout) (state : State) (image : Image) → HasPart lists layout state image → IsSound image layout.base.ckpt
 sound_part lists layout state image part which at no_end stands = by_which which no_end stands
   where
-    by_which : (which : Which) → which ≢ VersionEnd → StandsAt which image layout.base.point at → ⊥
+    by_which : (which : Which) → which ≢ VersionEnd → StandsAt which image layout.base.ckpt at → ⊥
     by_which BadSuper no_end stands = stands
     by_which NoCheckpoint no_end stands = stands
     by_which VersionEnd no_end stands = no_end refl
@@ -39,12 +39,12 @@ sound_part lists layout state image part which at no_end stands = by_which which
     by_which TooFull no_end stands = not_too_full lists layout state image part at stands.0 stands.1
 
 pub log_left : (lists : Contents) (layout : Layout) (state : State) → KeepsPacks lists layout state → KeepsLog lists layout state → (image : Image) → IsImage lists image
-    → ¬ (IsPendingTail layout.pending (block_at image (tail_address (other_side layout.base.point.side)))) → IsLeft state image
+    → ¬ (IsPendingTail layout.pending (block_at image (tail_address (other_side layout.base.ckpt.side)))) → IsLeft state image
 log_left lists layout state packs keeps image is none =
     let part = has_part lists layout state image keeps is in
     let place = kept lists layout state image part in
     record {
-      point = layout.base.point;
+      ckpt = layout.base.ckpt;
       meaning = base_up_to state place;
       remains = inl (place, acknowledged_kept lists layout state image part, (kept_marks lists layout state image part).1, refl);
       means = record {

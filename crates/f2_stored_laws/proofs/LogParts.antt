@@ -25,11 +25,11 @@ module _ (log : List Logged) (count : ℕ) where
   direct_of_part place ino None small = refl
   direct_of_part place ino (Some offset) small = last_of_part ino offset (place + 1) (omega (arith, small))
 
-  pub address_of_part : (image : Image) (point : Checkpoint) (place page : ℕ) → place < count → marked_address image point (take count log) place page ≡ marked_address image point log place page
-  address_of_part image point place page small =
+  pub address_of_part : (image : Image) (ckpt : Checkpoint) (place page : ℕ) → place < count → marked_address image ckpt (take count log) place page ≡ marked_address image ckpt log place page
+  address_of_part image ckpt place page small =
       let block = block_in log place in
-      let base = base_direct image point (node image point (footer_ino block)) page in
-      ap (λ b. address_in b (or_below (logged_direct (take count log) place (footer_ino b) (direct_of page)) (base_direct image point (node image point (footer_ino b)) page)) page) (block_of_part place small)
+      let base = base_direct image ckpt (node image ckpt (footer_ino block)) page in
+      ap (λ b. address_in b (or_below (logged_direct (take count log) place (footer_ino b) (direct_of page)) (base_direct image ckpt (node image ckpt (footer_ino b)) page)) page) (block_of_part place small)
       ∙ ap (λ direct. address_in block (or_below direct base) page) (direct_of_part place (footer_ino block) (direct_of page) small)
 
   -- the marked places of a first part are the first ones

@@ -5,7 +5,7 @@ use Rattle.std.specs.List.{AllZip}
 use Rattle.std.specs.FinMap as map
 use Rattle.std.proofs.lemmas.List.{length-take-le}
 use native.Mathlib.Decide.{dec_lt}
-use Rattle.f2_format.specs.Geometry.{Extent, nid_limit, is_in_node}
+use Rattle.f2_format.specs.Geometry.{ImageGeometry, nid_limit, is_in_node}
 use Rattle.f2_format.specs.Footer.{footer_ino}
 use Rattle.f2_format.specs.Inode.{inode_of}
 use Rattle.f2_disk.specs.Contents.{Contents, IsImage}
@@ -33,26 +33,26 @@ use Rattle.f2_stored_laws.proofs.Lists.{zip_other}
 use Rattle.f2_stored_laws.proofs.LogParts.{block_of_part, address_of_part, places_marked}
 use Rattle.f2_stored_laws.proofs.LogImages.{HasPart, kept, kept_marks}
 
-zero_outside : (extent : Extent) → is_in_node extent 0 ≡ false
-zero_outside extent = grind arith
+zero_outside : (geom : ImageGeometry) → is_in_node geom 0 ≡ false
+zero_outside geom = grind arith
 
 -- the nid of a node of a sound image is in its table
-node_in_table : (image : Image) (point : Checkpoint) → IsSound image point → (ino offset nid : ℕ) → IsNode image point ino offset nid → nid < nid_limit point.extent
-node_in_table image point sound ino offset nid is = by_order (dec_lt nid (nid_limit point.extent))
+node_in_table : (image : Image) (ckpt : Checkpoint) → IsSound image ckpt → (ino offset nid : ℕ) → IsNode image ckpt ino offset nid → nid < nid_limit ckpt.geom
+node_in_table image ckpt sound ino offset nid is = by_order (dec_lt nid (nid_limit ckpt.geom))
   where
-    by_order : Dec (nid < nid_limit point.extent) → nid < nid_limit point.extent
+    by_order : Dec (nid < nid_limit ckpt.geom) → nid < nid_limit ckpt.geom
     by_order (yes small) = small
     by_order (no past) =
         absurd (sound BadNat nid bad_nat (
-          sound_table image point sound,
-          faults.nowhere ino offset is (ap (is_in_node point.extent) (none_past (nid_limit point.extent) nid (place_of_nid image point nid).1 past) ∙ zero_outside point.extent),
+          sound_table image ckpt sound,
+          faults.nowhere ino offset is (ap (is_in_node ckpt.geom) (none_past (nid_limit ckpt.geom) nid (place_of_nid image ckpt nid).1 past) ∙ zero_outside ckpt.geom),
         ))
 
 -- a base is read from no more than what an image depends on
-depends : (image : Image) (point : Checkpoint) → IsSound image point → (at : ℕ) → IsReadFrom image point at → DependsOn image point at
-depends image point sound at (laws.table ino offset nid is here) = depending.table nid (node_in_table image point sound ino offset nid is) here
-depends image point sound at (laws.node ino offset nid is here) = depending.node ino offset nid is here
-depends image point sound at (laws.page ino page is) = depending.page ino page (inl is)
+depends : (image : Image) (ckpt : Checkpoint) → IsSound image ckpt → (at : ℕ) → IsReadFrom image ckpt at → DependsOn image ckpt at
+depends image ckpt sound at (laws.table ino offset nid is here) = depending.table nid (node_in_table image ckpt sound ino offset nid is) here
+depends image ckpt sound at (laws.node ino offset nid is here) = depending.node ino offset nid is here
+depends image ckpt sound at (laws.page ino page is) = depending.page ino page (inl is)
 
 -- what a page of a mark is
 page_is : (lists : Contents) (image : Image) → IsImage lists image → (at : ℕ) (page : Option (List ℕ)) → HasPage lists at page → page ≡ block_there image at
@@ -63,14 +63,14 @@ page_is lists image is _ _ (marks.there at bytes there one) = ap Some (sym (the_
     test n other = grind (arith, other)
 
 module _ (lists : Contents) (layout : Layout) (state : State) (image : Image) (part : HasPart lists layout state image) where
-  pub base_meant : IsBase image layout.base.point state.base
+  pub base_meant : IsBase image layout.base.ckpt state.base
   base_meant =
-      base_too layout.base.image image layout.base.point
-      (λ at needs. one_content lists image part.is layout.base.image at (part.keeps.base.read at (depends layout.base.image layout.base.point part.keeps.base.means.sound at needs)))
+      base_too layout.base.image image layout.base.ckpt
+      (λ at needs. one_content lists image part.is layout.base.image at (part.keeps.base.read at (depends layout.base.image layout.base.ckpt part.keeps.base.means.sound at needs)))
       state.base part.keeps.base.means.is_base
 
   mark_meant : (place : ℕ) (mark : Mark) → (place < length (take part.count (chained layout))) × IsTrue (is_marked (block_in (take part.count (chained layout)) place))
-      → place < part.count → HoldsMark lists layout state.base place mark → IsMark image layout.base.point state.base (take part.count (chained layout)) place mark
+      → place < part.count → HoldsMark lists layout state.base place mark → IsMark image layout.base.ckpt state.base (take part.count (chained layout)) place mark
   mark_meant place mark at small holds =
       let log = chained layout in
       let block : block_in log place ≡ block_in (take part.count log) place = sym (block_of_part log part.count place small) in
@@ -83,15 +83,15 @@ module _ (lists : Contents) (layout : Layout) (state : State) (image : Image) (p
           within = holds.within;
           blocks = λ page within.
               page_is lists image part.is _ (map.get mark.row.pages page) (holds.pages page within)
-              ∙ ap (block_there image) (sym (address_of_part log part.count image layout.base.point place page small ∙ part.alike.marked_addresses log place page));
+              ∙ ap (block_there image) (sym (address_of_part log part.count image layout.base.ckpt place page small ∙ part.alike.marked_addresses log place page));
         };
         named = subst (λ b. IsNamed state.base b mark.row (map.get state.base mark.ino)) block holds.named;
       }
 
-  pub marks_meant : AreMarks image layout.base.point state.base (take (kept lists layout state image part) state.marks)
+  pub marks_meant : AreMarks image layout.base.ckpt state.base (take (kept lists layout state image part) state.marks)
   marks_meant =
       let log = take part.count (chained layout) in
-      subst (λ log. AllZip (IsMark image layout.base.point state.base log) (marked_places log) (take (kept lists layout state image part) state.marks)) (sym part.chain)
-      (zip_other (λ place. (place < length log) × IsTrue (is_marked (block_in log place))) (HoldsMark lists layout state.base) (IsMark image layout.base.point state.base log)
+      subst (λ log. AllZip (IsMark image layout.base.ckpt state.base log) (marked_places log) (take (kept lists layout state image part) state.marks)) (sym part.chain)
+      (zip_other (λ place. (place < length log) × IsTrue (is_marked (block_in log place))) (HoldsMark lists layout state.base) (IsMark image layout.base.ckpt state.base log)
       (λ place mark at holds. mark_meant place mark at (subst (λ n. place < n) (length-take-le part.count (chained layout) part.within) at.0) holds)
       (marked_places log) (take (kept lists layout state image part) state.marks) (places_marked log) (kept_marks lists layout state image part).0)

@@ -20,10 +20,10 @@ bad_tree e = cc
 
 module _ (lists : Contents) (layout : Layout) (state : State) (image : Image) (part : HasPart lists layout state image) where
   -- the mark of a marked block goes with the base
-  pub fits : (place : ℕ) (block : List ℕ) (at : MarkAt lists layout state image part place block) → FitsBase (image_limits layout.base.point.extent) state.base at.mark
-  fits place block at = All-contains (FitsBase (image_limits layout.base.point.extent) state.base) state.marks at.mark part.keeps.fitting.base at.among
+  pub fits : (place : ℕ) (block : List ℕ) (at : MarkAt lists layout state image part place block) → FitsBase (image_limits layout.base.ckpt.geom) state.base at.mark
+  fits place block at = All-contains (FitsBase (image_limits layout.base.ckpt.geom) state.base) state.marks at.mark part.keeps.fitting.base at.among
 
-  pub no_conflict : (ino : ℕ) → HasTable layout.base.point → IsConflict image layout.base.point ino → ⊥
+  pub no_conflict : (ino : ℕ) → HasTable layout.base.ckpt → IsConflict image layout.base.ckpt ino → ⊥
   no_conflict ino table (faults.in_base place parent name dentry brings up has is) =
       let new = brought lists layout state image part place ino parent name brings in
       let up_here = part.alike.back.reached parent up in
@@ -37,8 +37,8 @@ module _ (lists : Contents) (layout : Layout) (state : State) (image : Image) (p
       let old = brought lists layout state image part earlier other parent name too in
       differ (sym old.ino_is ∙ part.keeps.fitting.names old.at.mark new.at.mark old.at.among new.at.among (old.under ∙ sym new.under) (old.named ∙ sym new.named) ∙ new.ino_is)
 
-  pub no_lost_parent : (ino : ℕ) → HasNoParent image layout.base.point ino → ⊥
+  pub no_lost_parent : (ino : ℕ) → HasNoParent image layout.base.ckpt ino → ⊥
   no_lost_parent ino has =
       let new = brought lists layout state image part has.place ino has.parent has.name has.brings in
       let up = (fits has.place new.block new.at).up in
-      has.none (subst (IsDirectoryOf image layout.base.point) new.under (directory_of lists layout state image part new.at.mark.row.parent up.0 up.1 up.2))
+      has.none (subst (IsDirectoryOf image layout.base.ckpt) new.under (directory_of lists layout state image part new.at.mark.row.parent up.0 up.1 up.2))

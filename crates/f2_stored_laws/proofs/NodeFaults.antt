@@ -27,19 +27,19 @@ dent_fault e = cc
 
 module _ (lists : Contents) (layout : Layout) (state : State) (image : Image) (part : HasPart lists layout state image) where
   -- the numbers of a block that recovery takes
-  numbered : (place : ℕ) (block : List ℕ) → IsTaken image layout.base.point place block → IsNumbered layout (record { at = (slice_index_or (chained layout) place no_block).at; block = block })
+  numbered : (place : ℕ) (block : List ℕ) → IsTaken image layout.base.ckpt place block → IsNumbered layout (record { at = (slice_index_or (chained layout) place no_block).at; block = block })
   numbered place block taken =
       let at = taken_in lists layout state image part place block taken in
       let one = slice_index_or (chained layout) place no_block in
       subst (λ b. IsNumbered layout (record { at = one.at; block = b })) (sym at.1)
       (part.keeps.nids.log place (in_log lists layout state image part place at.0) (counts_in lists layout state image part place block taken))
 
-  nid_of : (ino offset nid : ℕ) → HasNid image layout.base.point ino offset nid → map.get layout.nids (ino, offset) ≡ Some nid
+  nid_of : (ino offset nid : ℕ) → HasNid image layout.base.ckpt ino offset nid → map.get layout.nids (ino, offset) ≡ Some nid
   nid_of ino offset nid (faults.in_base is) = part.keeps.nids.base ino offset nid (part.alike.back.node ino offset nid is)
   nid_of ino offset nid (faults.in_log place block taken own at is) =
       (λ i. map.get layout.nids (sym own i, sym at i)) ∙ (numbered place block taken).nid ∙ ap Some is
 
-  pub no_bad_nat : (nid : ℕ) → HasTable layout.base.point → IsBadNat image layout.base.point nid → ⊥
+  pub no_bad_nat : (nid : ℕ) → HasTable layout.base.ckpt → IsBadNat image layout.base.ckpt nid → ⊥
   no_bad_nat nid table (faults.entry bad) = part.keeps.base.means.sound BadNat nid bad_nat (table, faults.entry bad)
   no_bad_nat nid table (faults.unreached small there none) =
       part.keeps.base.means.sound BadNat nid bad_nat (
@@ -49,12 +49,12 @@ module _ (lists : Contents) (layout : Layout) (state : State) (image : Image) (p
       )
   no_bad_nat nid table (faults.too_low ino offset is small apart) = part.keeps.base.means.sound BadNat nid bad_nat (table, faults.too_low ino offset (part.alike.back.node ino offset nid is) small apart)
   no_bad_nat nid table (faults.nowhere ino offset is out) =
-      part.keeps.base.means.sound BadNat nid bad_nat (table, faults.nowhere ino offset (part.alike.back.node ino offset nid is) (ap (is_in_node layout.base.point.extent) (sym (part.alike.addresses nid)) ∙ out))
+      part.keeps.base.means.sound BadNat nid bad_nat (table, faults.nowhere ino offset (part.alike.back.node ino offset nid is) (ap (is_in_node layout.base.ckpt.geom) (sym (part.alike.addresses nid)) ∙ out))
   no_bad_nat nid table (faults.misplaced ino offset block is there wrong) =
       part.keeps.base.means.sound BadNat nid bad_nat (table, faults.misplaced ino offset block (part.alike.back.node ino offset nid is) (sym (part.alike.nodes nid) ∙ there) wrong)
   no_bad_nat nid table (faults.no_nid place block taken is none) = by_bound none
     where
-      by_bound : IsNoNid layout.base.point nid → ⊥
+      by_bound : IsNoNid layout.base.ckpt nid → ⊥
       by_bound (inl low) = let least = (numbered place block taken).least in absurd (omega (arith, low, least, is))
       by_bound (inr past) = let most = (numbered place block taken).most in absurd (omega (arith, past, most, is))
   no_bad_nat nid table (faults.taken place block ino offset taken is has differ) = by_part differ
@@ -69,7 +69,7 @@ module _ (lists : Contents) (layout : Layout) (state : State) (image : Image) (p
   no_bad_nat nid table (faults.other place block own taken is node differ) =
       differ (same_Some own nid (sym (nid_of _ _ own (faults.in_base node)) ∙ (numbered place block taken).nid ∙ ap Some is))
 
-  pub no_bad_inode : (at : ℕ) → IsBadInode image layout.base.point at → ⊥
+  pub no_bad_inode : (at : ℕ) → IsBadInode image layout.base.ckpt at → ⊥
   no_bad_inode at (faults.in_base table ino block reach there is foreign) =
       part.keeps.base.means.sound BadInode at bad_inode
       (faults.in_base table ino block (part.alike.back.reached ino reach) (sym (part.alike.nodes ino) ∙ there) (sym (part.alike.addresses ino) ∙ is) foreign)
@@ -83,7 +83,7 @@ module _ (lists : Contents) (layout : Layout) (state : State) (image : Image) (p
       by_part (inr (inl long)) = let few = found.holds.name_length in absurd (omega (arith, long, few))
       by_part (inr (inr big)) = let same = found.holds.size in let most = found.holds.most_size in absurd (omega (arith, big, same, most))
 
-  pub no_dentry_fault : (at : ℕ) → HasTable layout.base.point → HasDentryFault image layout.base.point at → ⊥
+  pub no_dentry_fault : (at : ℕ) → HasTable layout.base.ckpt → HasDentryFault image layout.base.ckpt at → ⊥
   no_dentry_fault at table has =
       let reach = part.alike.back.reached has.directory has.reached in
       let block = part.alike.back.directory_block has.directory has.page at has.block in

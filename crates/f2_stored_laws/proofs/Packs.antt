@@ -49,10 +49,10 @@ behind_first image B newest is behind = subst (λ n. version_of image A < n) (sy
 module _ (lists : Contents) (image : Image) (is : IsImage lists image) where
   -- what an image has of the checkpoint of another one that the disk holds
   module _ (held : Reference) (base : Rows) (marks : List Mark) (holds : HoldsImage lists held base marks) where
-    pub same_head : block_at image (head_address held.point.side) ≡ block_at held.image (head_address held.point.side)
-    same_head = one_content lists image is held.image (head_address held.point.side) (holds.tells (head_address held.point.side) bases.head)
+    pub same_head : block_at image (head_address held.ckpt.side) ≡ block_at held.image (head_address held.ckpt.side)
+    same_head = one_content lists image is held.image (head_address held.ckpt.side) (holds.tells (head_address held.ckpt.side) bases.head)
 
-    pub head_version : version_of image held.point.side ≡ held.point.head.version
+    pub head_version : version_of image held.ckpt.side ≡ held.ckpt.head.version
     head_version = ap (λ block. (head_of block).version) same_head ∙ ap (λ head. head.version) (sym holds.means.checkpoint.head)
 
     first_two : (at : ℕ) → at ≤ 1 → block_at image at ≡ block_at held.image at
@@ -60,33 +60,33 @@ module _ (lists : Contents) (image : Image) (is : IsImage lists image) where
     first_two (suc zero) few = one_content lists image is held.image 1 (holds.tells 1 bases.second_superblock)
     first_two (suc (suc at)) few = absurd (omega (arith, few))
 
-    pub valid_with : block_at image (tail_address held.point.side) ≡ tail_of held → IsValid held.point.extent image held.point.side
-    valid_with tail = subst₂ (IsPack held.point.extent) (sym same_head) (sym tail) holds.means.checkpoint.newest.valid
+    pub valid_with : block_at image (tail_address held.ckpt.side) ≡ tail_of held → IsValid held.ckpt.geom image held.ckpt.side
+    valid_with tail = subst₂ (IsPack held.ckpt.geom) (sym same_head) (sym tail) holds.means.checkpoint.newest.valid
 
-    pub checkpoint_with : block_at image (tail_address held.point.side) ≡ tail_of held → (IsValid held.point.extent image (other_side held.point.side) → GoesBefore image held.point.side) → IsCheckpoint image held.point
+    pub checkpoint_with : block_at image (tail_address held.ckpt.side) ≡ tail_of held → (IsValid held.ckpt.geom image (other_side held.ckpt.side) → GoesBefore image held.ckpt.side) → IsCheckpoint image held.ckpt
     checkpoint_with tail first = record {
-      sized = same_sizes held.image image held.point.extent (as_long lists image is ∙ sym holds.size) first_two holds.means.checkpoint.sized;
+      sized = same_sizes held.image image held.ckpt.geom (as_long lists image is ∙ sym holds.size) first_two holds.means.checkpoint.sized;
       newest = record { valid = valid_with tail; newest = first };
       head = holds.means.checkpoint.head ∙ ap head_of (sym same_head);
-      summary = holds.means.checkpoint.summary ∙ sym (one_content lists image is held.image (summary_address held.point.side) (holds.tells (summary_address held.point.side) bases.summary));
+      summary = holds.means.checkpoint.summary ∙ sym (one_content lists image is held.image (summary_address held.ckpt.side) (holds.tells (summary_address held.ckpt.side) bases.summary));
     }
 
     -- the pack that counts on the disk counts in the image, where the other one's tail isn't that of a pending tree
-    pub base_counts : (pending : Option Reference) → HasPacks lists held pending → ¬ (IsPendingTail pending (block_at image (tail_address (other_side held.point.side)))) → IsCheckpoint image held.point
-    base_counts pending packs none = checkpoint_with (the_content lists image is (tail_address held.point.side) (tail_of held) packs.own) (λ valid.
-        by_case (packs.behind _ _ (member lists image is (head_address (other_side held.point.side))) (member lists image is (tail_address (other_side held.point.side))) valid))
+    pub base_counts : (pending : Option Reference) → HasPacks lists held pending → ¬ (IsPendingTail pending (block_at image (tail_address (other_side held.ckpt.side)))) → IsCheckpoint image held.ckpt
+    base_counts pending packs none = checkpoint_with (the_content lists image is (tail_address held.ckpt.side) (tail_of held) packs.own) (λ valid.
+        by_case (packs.behind _ _ (member lists image is (head_address (other_side held.ckpt.side))) (member lists image is (tail_address (other_side held.ckpt.side))) valid))
       where
-        by_case : IsBehind held.point.side (version_of image (other_side held.point.side)) held.point.head.version ⊎ IsPendingTail pending (block_at image (tail_address (other_side held.point.side))) → GoesBefore image held.point.side
-        by_case (inl behind) = behind_first image held.point.side held.point.head.version head_version behind
+        by_case : IsBehind held.ckpt.side (version_of image (other_side held.ckpt.side)) held.ckpt.head.version ⊎ IsPendingTail pending (block_at image (tail_address (other_side held.ckpt.side))) → GoesBefore image held.ckpt.side
+        by_case (inl behind) = behind_first image held.ckpt.side held.ckpt.head.version head_version behind
         by_case (inr tail) = absurd (none tail)
 
   -- with that tail the pending tree's pack counts
   pub pending_counts : (held : Reference) (base : Rows) (marks : List Mark) → HoldsImage lists held base marks → (pending : Reference) (tree : Rows) → HoldsPending lists held pending tree
-      → block_at image (tail_address (other_side held.point.side)) ≡ tail_of pending → IsCheckpoint image pending.point
+      → block_at image (tail_address (other_side held.ckpt.side)) ≡ tail_of pending → IsCheckpoint image pending.ckpt
   pending_counts held base marks holds pending tree keeps tail =
       checkpoint_with pending tree [] keeps.holds (subst (λ side. block_at image (tail_address side) ≡ tail_of pending) (sym keeps.side) tail) (λ valid.
-      later_first image pending.point.side (less (version_of image (other_side pending.point.side)) (version_of image pending.point.side) held.point.head.version
-      (ap (version_of image) (ap other_side keeps.side ∙ twice_other held.point.side) ∙ head_version held base marks holds)
+      later_first image pending.ckpt.side (less (version_of image (other_side pending.ckpt.side)) (version_of image pending.ckpt.side) held.ckpt.head.version
+      (ap (version_of image) (ap other_side keeps.side ∙ twice_other held.ckpt.side) ∙ head_version held base marks holds)
       (head_version pending tree [] keeps.holds ∙ keeps.version)))
     where
       less : (one other held : ℕ) → one ≡ held → other ≡ held + 1 → one < other

@@ -20,35 +20,35 @@ use Rattle.f2_stored.specs.Layout.{Layout, chained}
 use Rattle.f2_stored_laws.proofs.LogImages.{HasPart, MarkAt, mark_at}
 
 -- an ino that is reached has a row
-pub row_there : (image : Image) (point : Checkpoint) (tree : Rows) → IsBase image point tree → (ino : ℕ) → IsReached image point ino → (row : Row) × (map.get tree ino ≡ Some row)
-row_there image point tree base _ bases.root = (base.root.row, base.root.there)
-row_there image point tree base _ (bases.below directory dentry up has) = let at = base.names directory dentry up has in (at.row, at.there)
+pub row_there : (image : Image) (ckpt : Checkpoint) (tree : Rows) → IsBase image ckpt tree → (ino : ℕ) → IsReached image ckpt ino → (row : Row) × (map.get tree ino ≡ Some row)
+row_there image ckpt tree base _ bases.root = (base.root.row, base.root.there)
+row_there image ckpt tree base _ (bases.below directory dentry up has) = let at = base.names directory dentry up has in (at.row, at.there)
 
 -- a directory of the image of a base has the row of a directory
-pub directory_there : (image : Image) (point : Checkpoint) (tree : Rows) → IsBase image point tree → (ino : ℕ) → IsDirectoryOf image point ino → (row : Row) × (map.get tree ino ≡ Some row) × (row.kind ≡ Directory)
-directory_there image point tree base ino directory =
-    let found = row_there image point tree base ino directory.0 in
+pub directory_there : (image : Image) (ckpt : Checkpoint) (tree : Rows) → IsBase image ckpt tree → (ino : ℕ) → IsDirectoryOf image ckpt ino → (row : Row) × (map.get tree ino ≡ Some row) × (row.kind ≡ Directory)
+directory_there image ckpt tree base ino directory =
+    let found = row_there image ckpt tree base ino directory.0 in
     let is = (base.rows ino found.0 found.1).is in
     let inode = directory.1 in
     let same : inode.0 ≡ (base.rows ino found.0 found.1).inode = same_Some inode.0 (base.rows ino found.0 found.1).inode (sym inode.1.there ∙ is.there) in
     (found.0, found.1, same_Some found.0.kind Directory (sym is.is_kind ∙ ap inode_kind (sym same) ∙ inode.1.is_kind))
 
 module _ (lists : Contents) (layout : Layout) (state : State) (image : Image) (part : HasPart lists layout state image) where
-  base : IsBase layout.base.image layout.base.point state.base
+  base : IsBase layout.base.image layout.base.ckpt state.base
   base = part.keeps.base.means.is_base
 
   -- a row of the base is reached in the image
-  pub reached_there : (ino : ℕ) (row : Row) → map.get state.base ino ≡ Some row → IsReached image layout.base.point ino
+  pub reached_there : (ino : ℕ) (row : Row) → map.get state.base ino ≡ Some row → IsReached image layout.base.ckpt ino
   reached_there ino row there = part.alike.there.reached ino ((base.rows ino row there).reached)
 
   -- and a directory's is a directory
-  pub directory_of : (ino : ℕ) (row : Row) → map.get state.base ino ≡ Some row → row.kind ≡ Directory → IsDirectoryOf image layout.base.point ino
+  pub directory_of : (ino : ℕ) (row : Row) → map.get state.base ino ≡ Some row → row.kind ≡ Directory → IsDirectoryOf image layout.base.ckpt ino
   directory_of ino row there kind =
       let at = base.rows ino row there in
-      (reached_there ino row there, (at.inode, part.alike.there.inode ino Directory at.inode (subst (λ k. IsInode layout.base.image layout.base.point ino k at.inode) kind at.is)))
+      (reached_there ino row there, (at.inode, part.alike.there.inode ino Directory at.inode (subst (λ k. IsInode layout.base.image layout.base.ckpt ino k at.inode) kind at.is)))
 
   -- an ino that isn't reached in the image has no row
-  pub no_row : (ino : ℕ) → ¬ (IsReached image layout.base.point ino) → map.get state.base ino ≡ None
+  pub no_row : (ino : ℕ) → ¬ (IsReached image layout.base.ckpt ino) → map.get state.base ino ≡ None
   no_row ino none = by_row (map.get state.base ino) refl
     where
       by_row : (o : Option Row) → map.get state.base ino ≡ o → map.get state.base ino ≡ None
@@ -67,7 +67,7 @@ module _ (lists : Contents) (layout : Layout) (state : State) (image : Image) (p
   pub mark_ino : (place : ℕ) (block : List ℕ) (at : MarkAt lists layout state image part place block) → at.mark.ino ≡ footer_ino block
   mark_ino place block at = at.holds.ino ∙ ap footer_ino (sym at.stands)
 
-  pub brought : (place ino parent : ℕ) (name : List ℕ) → BringsName image layout.base.point place ino parent name → Brought place ino parent name
+  pub brought : (place ino parent : ℕ) (name : List ℕ) → BringsName image layout.base.ckpt place ino parent name → Brought place ino parent name
   brought place ino parent name brings =
       let at = mark_at lists layout state image part place brings.block brings.marked in
       let own : at.mark.ino ≡ ino = mark_ino place brings.block at ∙ brings.own in

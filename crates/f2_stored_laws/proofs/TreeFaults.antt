@@ -34,10 +34,10 @@ page_bytes lists _ _ marks.none there = absurd (there refl)
 page_bytes lists _ _ (marks.there at bytes other one) there = (bytes, refl, one)
 
 module _ (lists : Contents) (layout : Layout) (state : State) (image : Image) (part : HasPart lists layout state image) where
-  below_here : (depth ino : ℕ) → IsBelow image layout.base.point depth ino → IsBelow layout.base.image layout.base.point depth ino
+  below_here : (depth ino : ℕ) → IsBelow image layout.base.ckpt depth ino → IsBelow layout.base.image layout.base.ckpt depth ino
   below_here _ _ faults.root = faults.root
   below_here _ _ (faults.deeper depth directory dentry up has) =
-      faults.deeper depth directory dentry (below_here depth directory up) (part.alike.back.dentry directory dentry (below_is_reached image layout.base.point depth directory up) has)
+      faults.deeper depth directory dentry (below_here depth directory up) (part.alike.back.dentry directory dentry (below_is_reached image layout.base.ckpt depth directory up) has)
 
   -- pages past a size, where the blocks are the same
   past_here : (size page at : ℕ) → block_at image at ≡ block_at layout.base.image at → IsPastSize image size page at → IsPastSize layout.base.image size page at
@@ -65,7 +65,7 @@ module _ (lists : Contents) (layout : Layout) (state : State) (image : Image) (p
           let beyond : (inode_of inode).size ≤ page * 4096 + byte = past in
           other (ap (λ b. slice_index b byte) block ∙ pages.zeros page byte bytes is (subst (λ n. n ≤ page * 4096 + byte) (sym size) beyond))
 
-  pub no_bad_tree : (ino : ℕ) → HasTable layout.base.point → IsBadTree image layout.base.point ino → ⊥
+  pub no_bad_tree : (ino : ℕ) → HasTable layout.base.ckpt → IsBadTree image layout.base.ckpt ino → ⊥
   no_bad_tree ino table (faults.too_low directory d up has is small) =
       part.keeps.base.means.sound BadTree ino bad_tree (table, faults.too_low directory d (part.alike.back.reached directory up) (part.alike.back.dentry directory d up has) is small)
   no_bad_tree ino table (faults.twice directory page slot more other_page place a b up too has has_too differ is is_too) =
@@ -98,8 +98,8 @@ module _ (lists : Contents) (layout : Layout) (state : State) (image : Image) (p
       kinds_differ (sym mark.holds.regular ∙ same_Some mark.mark.row.kind Directory (sym mark.holds.kind ∙ ap inode_kind (sym mark.stands) ∙ kind))
   no_bad_tree ino table (faults.marked_directory place inode is own (inr directory)) =
       let mark = mark_at lists layout state image part place inode is in
-      let here : IsDirectoryOf layout.base.image layout.base.point ino = (part.alike.back.reached ino directory.0, (directory.1.0, part.alike.back.inode ino Directory directory.1.0 directory.1.1)) in
-      let found = directory_there layout.base.image layout.base.point state.base part.keeps.base.means.is_base ino here in
+      let here : IsDirectoryOf layout.base.image layout.base.ckpt ino = (part.alike.back.reached ino directory.0, (directory.1.0, part.alike.back.inode ino Directory directory.1.0 directory.1.1)) in
+      let found = directory_there layout.base.image layout.base.ckpt state.base part.keeps.base.means.is_base ino here in
       let same : mark.mark.ino ≡ ino = mark_ino lists layout state image part place inode mark ∙ own in
       kinds_differ (sym ((fits lists layout state image part place inode mark).file found.0 (ap (map.get state.base) same ∙ found.1)) ∙ found.2)
   no_bad_tree ino table (faults.unbound place inode is own none unmarked) =

@@ -28,17 +28,17 @@ use Rattle.f2_takeover.specs.Orders.{Taken, HasRow, IsRooted}
 use Rattle.f2_takeover.specs.Rows.{Rolls, IsDepthOf, IsOfRoll, IsTakenOver, AreRowsOf}
 use Rattle.f2_takeover.specs.declared.rows.TakenRow.{TakenRow}
 
-module _ (image : Image) (point : Checkpoint) (walk : Walk) (is : IsWalked image point walk) where
+module _ (image : Image) (ckpt : Checkpoint) (walk : Walk) (is : IsWalked image ckpt walk) where
   -- an ino stands at one depth
-  one_depth : (a b ino other : ℕ) → ino ≡ other → IsBelow image point a ino → IsBelow image point b other → a ≡ b
+  one_depth : (a b ino other : ℕ) → ino ≡ other → IsBelow image ckpt a ino → IsBelow image ckpt b other → a ≡ b
   one_depth _ _ _ _ same root root = refl
-  one_depth _ _ _ _ same root (deeper depth directory dentry up has) = absurd (not_root image point walk is directory has.0 has.1 dentry (reached_of image point depth directory up) has.2 (sym same))
-  one_depth _ _ _ _ same (deeper depth directory dentry up has) root = absurd (not_root image point walk is directory has.0 has.1 dentry (reached_of image point depth directory up) has.2 same)
+  one_depth _ _ _ _ same root (deeper depth directory dentry up has) = absurd (not_root image ckpt walk is directory has.0 has.1 dentry (reached_of image ckpt depth directory up) has.2 (sym same))
+  one_depth _ _ _ _ same (deeper depth directory dentry up has) root = absurd (not_root image ckpt walk is directory has.0 has.1 dentry (reached_of image ckpt depth directory up) has.2 same)
   one_depth _ _ _ _ same (deeper depth directory dentry up has) (deeper other above entry down there) =
-      let one = one_dentry image point walk is directory has.0 has.1 above there.0 there.1 dentry entry (reached_of image point depth directory up) (reached_of image point other above down) has.2 there.2 same in
+      let one = one_dentry image ckpt walk is directory has.0 has.1 above there.0 there.1 dentry entry (reached_of image ckpt depth directory up) (reached_of image ckpt other above down) has.2 there.2 same in
       ap (λ n. n + 1) (one_depth depth other directory above one.0 up down)
 
-module _ (image : Image) (point : Checkpoint) (walk : Walk) (read : IsBaseRead image point walk) where
+module _ (image : Image) (ckpt : Checkpoint) (walk : Walk) (read : IsBaseRead image ckpt walk) where
   -- a directory of the base, as a row
   record IsAbove (ino : ℕ) : Type 0 where
     row : BaseRow
@@ -53,7 +53,7 @@ module _ (image : Image) (point : Checkpoint) (walk : Walk) (read : IsBaseRead i
   base_under : (ino : ℕ) (row : BaseRow) → map.get walk.rows ino ≡ Some row → ino ≢ ROOT → IsUnder row
   base_under ino row there other = by (read.walked.to.bound ino row there other) (read.walked.to.bound ino row there other).passed
     where
-      by : (bound : IsBoundBy image point read.walked.done 0 [] 0 ino row) → IsPassed read.walked.done 0 [] 0 row.parent bound.page bound.slot → IsUnder row
+      by : (bound : IsBoundBy image ckpt read.walked.done 0 [] 0 ino row) → IsPassed read.walked.done 0 [] 0 row.parent bound.page bound.slot → IsUnder row
       by bound (inr late) = let low = late.1.1.0 in absurd (omega (arith, low))
       by bound (inl done) =
           let has = (read.walked.to.walked row.parent done).row in
@@ -61,49 +61,49 @@ module _ (image : Image) (point : Checkpoint) (walk : Walk) (read : IsBaseRead i
           let own = read.walked.to.rows ino row there in
           record {
             above = record { row = has.row; there = has.there; kind = has.is };
-            deeper_by = one_depth image point walk read.walked row.depth (has.row.depth + 1) ino bound.dentry.ino (sym bound.own) own.below
+            deeper_by = one_depth image ckpt walk read.walked row.depth (has.row.depth + 1) ino bound.dentry.ino (sym bound.own) own.below
                 (deeper has.row.depth row.parent bound.dentry above.below (bound.page, bound.slot, bound.has));
           }
 
   -- a directory of the image is a row of the base
-  directory_row : (ino : ℕ) → IsDirectoryOf image point ino → IsAbove ino
+  directory_row : (ino : ℕ) → IsDirectoryOf image ckpt ino → IsAbove ino
   directory_row ino directory =
-      let has = row_of image point walk read.walked ino directory.0 in
-      record { row = has.row; there = has.there; kind = one_kind image point ino has.row.file.kind Directory has.is.file.inode directory.1.0 has.is.file.is directory.1.1 }
+      let has = row_of image ckpt walk read.walked ino directory.0 in
+      record { row = has.row; there = has.there; kind = one_kind image ckpt ino has.row.file.kind Directory has.is.file.inode directory.1.0 has.is.file.is directory.1.1 }
 
   directory_depth : (ino : ℕ) (above : IsAbove ino) → above.row.depth ≤ MOST_DEPTH
   directory_depth ino above = subst (λ k. above.row.depth ≤ most_depth k) above.kind (read.deep ino above.row above.there)
 
-  row_directory : (ino : ℕ) (above : IsAbove ino) → IsDirectoryOf image point ino
+  row_directory : (ino : ℕ) (above : IsAbove ino) → IsDirectoryOf image ckpt ino
   row_directory ino above =
       let file = (read.walked.to.rows ino above.row above.there).file in
       (file.reached, (file.inode, record { there = file.is.there; is_kind = file.is.is_kind ∙ ap Some above.kind }))
 
-  module _ (rolls : Rolls) (right : HasRightMarks image point) (are : AreRolls image point walk rolls) where
+  module _ (rolls : Rolls) (right : HasRightMarks image ckpt) (are : AreRolls image ckpt walk rolls) where
     abbrev block : ℕ → List ℕ
-    block place = block_in (chain image point) place
+    block place = block_in (chain image ckpt) place
 
     -- a file that was marked, with its last mark
     record IsMarkedFile (ino : ℕ) (roll : Roll) : Type 0 where
       place : ℕ
-      marked : IsMarkedAt image point place (block place)
+      marked : IsMarkedAt image ckpt place (block place)
       own : footer_ino (block place) ≡ ino
-      at : IsRollAt image point walk place ino roll
+      at : IsRollAt image ckpt walk place ino roll
 
     marked_file : (ino : ℕ) (roll : Roll) → map.get rolls ino ≡ Some roll → IsMarkedFile ino roll
-    marked_file ino roll there = by (last_mark_before (chain image point) (length (chain image point)) ino) refl (subst (λ (o : Option Roll). IsRoll image point walk ino (last_mark_before (chain image point) (length (chain image point)) ino) o) there (are ino))
+    marked_file ino roll there = by (last_mark_before (chain image ckpt) (length (chain image ckpt)) ino) refl (subst (λ (o : Option Roll). IsRoll image ckpt walk ino (last_mark_before (chain image ckpt) (length (chain image ckpt)) ino) o) there (are ino))
       where
-        by : (o : Option ℕ) → last_mark_before (chain image point) (length (chain image point)) ino ≡ o → IsRoll image point walk ino o (Some roll) → IsMarkedFile ino roll
+        by : (o : Option ℕ) → last_mark_before (chain image ckpt) (length (chain image ckpt)) ino ≡ o → IsRoll image ckpt walk ino o (Some roll) → IsMarkedFile ino roll
         by None e is = absurd is
         by (Some place) e is =
-            let found = last_is (chain image point) ino (length (chain image point)) place e in
+            let found = last_is (chain image ckpt) ino (length (chain image ckpt)) place e in
             record { place = place; marked = record { within = found.0; stands = refl; marked = found.1.marked }; own = found.1.own; at = is }
 
     -- no directory was marked
     no_directory : (ino : ℕ) (roll : Roll) → map.get rolls ino ≡ Some roll → IsAbove ino → ⊥
     no_directory ino roll there above =
         let file = marked_file ino roll there in
-        (right.marks file.place (block file.place) file.marked).file (subst (IsDirectoryOf image point) (sym file.own) (row_directory ino above))
+        (right.marks file.place (block file.place) file.marked).file (subst (IsDirectoryOf image ckpt) (sym file.own) (row_directory ino above))
 
     module _ (rows : Taken) (all : AreRowsOf rolls walk.rows rows) where
       -- a directory of the base is taken over as it is
@@ -132,11 +132,11 @@ module _ (image : Image) (point : Checkpoint) (walk : Walk) (read : IsBaseRead i
           let file = marked_file ino roll e in
           let inode = inode_of (block file.place) in
           let named = subst (IsRollNamed (block file.place) roll) f file.at.named in
-          let brings : BringsName image point file.place ino inode.parent (take inode.name_length inode.name) = record {
+          let brings : BringsName image ckpt file.place ino inode.parent (take inode.name_length inode.name) = record {
             block = block file.place;
             marked = file.marked;
             own = file.own;
-            fresh = λ reached. not_none (row_of image point walk read.walked ino reached).row (sym f ∙ (row_of image point walk read.walked ino reached).there);
+            fresh = λ reached. not_none (row_of image ckpt walk read.walked ino reached).row (sym f ∙ (row_of image ckpt walk read.walked ino reached).there);
             under = refl;
             named = refl;
           } in
@@ -161,7 +161,7 @@ module _ (image : Image) (point : Checkpoint) (walk : Walk) (read : IsBaseRead i
           let first = read.walked.to.root in
           let above : IsAbove ROOT = record { row = first.row; there = first.there; kind = first.is.kind } in
           let has = directory_taken ROOT above in
-          let depth : first.row.depth ≡ 0 = one_depth image point walk read.walked first.row.depth 0 ROOT ROOT refl (read.walked.to.rows ROOT first.row first.there).below root in
+          let depth : first.row.depth ≡ 0 = one_depth image ckpt walk read.walked first.row.depth 0 ROOT ROOT refl (read.walked.to.rows ROOT first.row first.there).below root in
           record { row = has.row; there = has.there; is = (has.is.0, has.is.1 ∙ depth) }
 
       pub rooted : IsRooted rows

@@ -25,7 +25,7 @@ pub(crate) fn changed_directories(
     walk: &Walk,
     rolls: &Rolls,
 ) -> Result<BitSet, AllocError>
-    ensures { IfOk result (λ changed. AreChangedTo rolls.now walk.now.rows (nid_limit walk.now.zones.extent) (nid_limit walk.now.zones.extent) changed.members) }
+    ensures { IfOk result (λ changed. AreChangedTo rolls.now walk.now.rows (nid_limit walk.now.zones.geom) (nid_limit walk.now.zones.geom) changed.members) }
 {
     let limit = walk.zones.nid_limit();
     let mut changed = BitSet::new(alloc, 0, limit)?;

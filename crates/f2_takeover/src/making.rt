@@ -139,7 +139,7 @@ fn make_rows(
     rolls: &Rolls,
     changed: &BitSet,
 ) -> Result<TakenRows, AllocError>
-    ensures { IfOk result (λ rows. AreMadeTo rolls.now walk.now.rows changed.now.members (nid_limit walk.now.zones.extent) rows) }
+    ensures { IfOk result (λ rows. AreMadeTo rolls.now walk.now.rows changed.now.members (nid_limit walk.now.zones.geom) rows) }
 {
     let mut rows = TakenRows::new(alloc);
     for ino in 0..walk.zones.nid_limit() {
@@ -155,10 +155,10 @@ fn make_rows(
 /// Each nid that the node address table has room for is looked at twice, each name and each address is copied once, and each
 /// page costs a look at the nodes on its way.
 pub fn take_over(alloc: Global, walk: &Walk, rolls: &Rolls) -> Result<TakenRows, AllocError>
-    ensures rows { IfOk result (λ rows. (image : Image) (point : Checkpoint) → IsBaseRead image point walk.now → HasRightNids image point → AreRolls image point walk.now rolls.now
+    ensures rows { IfOk result (λ rows. (image : Image) (ckpt : Checkpoint) → IsBaseRead image ckpt walk.now → HasRightNids image ckpt → AreRolls image ckpt walk.now rolls.now
         → AreRowsOf rolls.now walk.now.rows rows) }
-    ensures rooted { IfOk result (λ rows. (image : Image) (point : Checkpoint) → IsBaseRead image point walk.now → HasRightNids image point → HasRightMarks image point
-        → AreRolls image point walk.now rolls.now → IsRooted rows) }
+    ensures rooted { IfOk result (λ rows. (image : Image) (ckpt : Checkpoint) → IsBaseRead image ckpt walk.now → HasRightNids image ckpt → HasRightMarks image ckpt
+        → AreRolls image ckpt walk.now rolls.now → IsRooted rows) }
 {
     let changed = changed_directories(alloc, walk, rolls)?;
     make_rows(alloc, walk, rolls, &changed)

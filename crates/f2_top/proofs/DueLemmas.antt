@@ -2,7 +2,7 @@
 use Rattle.std.proofs.Common.{◌≡◌, ℕ, ◌+◌, List, [], ◌∷◌, ◌++◌, length, refl, sym, ap, ◌∙◌, subst, arith, inl, inr, Result, Ok, Err, take, length-append}
 use Rattle.std.specs.Prelude.{Option, Some}
 use Rattle.std.specs.Io.KnownBytes.{Consumes}
-use Rattle.f2_format.specs.Geometry.{Extent}
+use Rattle.f2_format.specs.Geometry.{ImageGeometry}
 use Rattle.f2_layout.specs.Refusal.{geometry_of}
 use Rattle.f2_layout.specs.declared.geometry.Limit.{Limit}
 use Rattle.f2_layout.specs.declared.geometry.BadGeometry.{BadGeometry}
@@ -33,8 +33,8 @@ same_fault : (bytes : List ℕ) (m n : ℕ) → IsFirstFault grammar.Replay byte
 same_fault bytes m n a b = a.1 ∙ ap (λ k. k + 1) (one_fault grammar.Replay _ (lines_of bytes) a.0 b.0 a.2 b.2) ∙ sym b.1
 
 -- the status of what is said of sizes
-abbrev status_of : Result Extent BadGeometry → Status
-status_of (Ok extent) = status.Done
+abbrev status_of : Result ImageGeometry BadGeometry → Status
+status_of (Ok geom) = status.Done
 status_of (Err bad) = status.Geometry bad.limit bad.value
 
 -- lines break one limit first
@@ -207,10 +207,10 @@ DueTaken-finished old new then now s ending due (said_whole same line) bytes is 
 DueTaken-finished old new then now s ending due (broken_off failed loud some) bytes is = subst (IsDue bytes) (sym failed) (due-free bytes status.SinkFault tt)
 
 -- lines whose sizes break no limit
-unbroken : (lines rest : List Line) (asked got : Extent) → lines ≡ Mkfs asked.blocks asked.nat ∷ rest → Ok got ≡ geometry_of asked → (limit : Limit) (value : ℕ) → ¬ (BreaksLimit lines limit value)
+unbroken : (lines rest : List Line) (asked got : ImageGeometry) → lines ≡ Mkfs asked.blocks asked.nat ∷ rest → Ok got ≡ geometry_of asked → (limit : Limit) (value : ℕ) → ¬ (BreaksLimit lines limit value)
 unbroken lines rest asked got is sizes limit value breaks =
     let broken : geometry_of asked ≡ Err record { limit = limit; value = value } = subst (λ ls. BreaksLimit ls limit value) is breaks in
-    let both : ◌≡◌ {A = Result Extent BadGeometry} (Ok got) (Err record { limit = limit; value = value }) = sizes ∙ broken in
+    let both : ◌≡◌ {A = Result ImageGeometry BadGeometry} (Ok got) (Err record { limit = limit; value = value }) = sizes ∙ broken in
     absurd (cc)
 
 -- the status of lines whose sizes break no limit, and of lines without any
@@ -226,7 +226,7 @@ played-due lines status.DiskFault within played = absurd played
 played-due lines (status.BadImage bad) within played = absurd played
 played-due lines (status.Geometry limit value) within played = absurd played
 
-pub IsDueLines-played : (lines rest : List Line) (asked got : Extent) (s : Status) → lines ≡ Mkfs asked.blocks asked.nat ∷ rest → Ok got ≡ geometry_of asked → IsPlayed s → IsDueLines lines s
+pub IsDueLines-played : (lines rest : List Line) (asked got : ImageGeometry) (s : Status) → lines ≡ Mkfs asked.blocks asked.nat ∷ rest → Ok got ≡ geometry_of asked → IsPlayed s → IsDueLines lines s
 IsDueLines-played lines rest asked got s is sizes played = played-due lines s (unbroken lines rest asked got is sizes) played
 
 pub IsDueLines-none : (lines : List Line) → lines ≡ [] → IsDueLines lines status.Done

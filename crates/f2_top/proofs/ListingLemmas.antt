@@ -5,7 +5,7 @@ use Rattle.std.specs.Io.KnownBytes.{Appends}
 use Rattle.f2_disk.specs.Contents.{Contents, WhereTold, latest, flushed}
 use Rattle.f2_disk.specs.Meter.{Meter, HasFailed}
 use Rattle.f2_disk.proofs.ContentsLaws.{latest_alone}
-use Rattle.f2_format.specs.Geometry.{Extent}
+use Rattle.f2_format.specs.Geometry.{ImageGeometry}
 use Rattle.f2_found.specs.Found.{IsFound}
 use Rattle.f2_found.specs.Places.{IsWithinBlocks}
 use Rattle.f2_found.specs.declared.found.Found.{Found}
@@ -57,7 +57,7 @@ pub shows_tree : (image : Image) (recovered : Recovered) (text : List ℕ) → I
 shows_tree image recovered text is spells = record {
   base = is.base;
   marks = is.marks;
-  means = (is.point, is.is.means);
+  means = (is.ckpt, is.is.means);
   spelled = spells (rolled is.base is.marks) is.is.found;
 }
 

@@ -3,7 +3,7 @@ use Rattle.std.proofs.Common.{◌≡◌, ℕ, ◌+◌, ◌-◌, ◌^◌, ◌≤�
 use Rattle.std.specs.Prelude.{codes, decimal, Option, Some, None, option_map, OnOk}
 use Rattle.std.specs.Io.KnownBytes.{Appends}
 use Rattle.std.proofs.lemmas.Fmt.{decimal_injective}
-use Rattle.f2_format.specs.Geometry.{Extent}
+use Rattle.f2_format.specs.Geometry.{ImageGeometry}
 use Rattle.f2_disk.specs.Contents.{Contents, WhereTold, latest, flushed}
 use Rattle.f2_disk.specs.Meter.{Meter, HasFailed}
 use Rattle.f2_disk.proofs.ContentsLaws.{latest_alone, told_same}
@@ -20,22 +20,22 @@ use Rattle.f2_top.specs.Replay.{Finishes, said_whole, broken_off}
 use Rattle.f2_top.specs.Making.{IsMkfs, ReadsTheSame, MakesBy, Makes, IsMade}
 
 -- sizes
-abbrev pub sizes : ℕ → ℕ → Extent
+abbrev pub sizes : ℕ → ℕ → ImageGeometry
 sizes blocks nat = record { blocks = blocks; nat = nat }
 
--- words ask for an image of one extent
-pub one_extent : (words : List (List ℕ)) (a b : Extent) → IsMkfs words a → IsMkfs words b → a ≡ b
-one_extent words a b one other =
+-- words ask for an image of one geom
+pub one_geom : (words : List (List ℕ)) (a b : ImageGeometry) → IsMkfs words a → IsMkfs words b → a ≡ b
+one_geom words a b one other =
     let same = sym one.are ∙ other.are in
     let blocks : a.blocks ≡ b.blocks = decimal_injective a.blocks b.blocks (omega (arith, one.blocks)) (omega (arith, other.blocks)) (ap (λ (l : List (List ℕ)). get_or l 2 []) same) in
     let nat : a.nat ≡ b.nat = decimal_injective a.nat b.nat (omega (arith, one.nat)) (omega (arith, other.nat)) (ap (λ (l : List (List ℕ)). get_or l 3 []) same) in
     ap (λ n. sizes n a.nat) blocks ∙ ap (λ n. sizes b.blocks n) nat
 
 -- sizes that break no limit
-pub own_sizes : (asked got : Extent) → ◌≡◌ {A = Result Extent BadGeometry} (Ok got) (geometry_of asked) → geometry_of asked ≡ Ok asked
+pub own_sizes : (asked got : ImageGeometry) → ◌≡◌ {A = Result ImageGeometry BadGeometry} (Ok got) (geometry_of asked) → geometry_of asked ≡ Ok asked
 own_sizes asked got is = sym is ∙ ap Ok (geometry_of-ok asked got (sym is))
 
-pub same_sizes : (asked got : Extent) → ◌≡◌ {A = Result Extent BadGeometry} (Ok got) (geometry_of asked) → got ≡ asked
+pub same_sizes : (asked got : ImageGeometry) → ◌≡◌ {A = Result ImageGeometry BadGeometry} (Ok got) (geometry_of asked) → got ≡ asked
 same_sizes asked got is = geometry_of-ok asked got (sym is)
 
 -- what is said of a call that succeeded
@@ -52,11 +52,11 @@ told_flushed None now flush = tt
 told_flushed (Some lists) now flush = subst (λ t. WhereTold (Some lists) t ReadsTheSame) (sym flush) (latest_alone (latest lists))
 
 -- an image that was made after a flush
-pub told_new : (extent : Extent) (told mid now : Option Contents) → mid ≡ option_map flushed told → WhereTold mid now (HasNewImage extent) → WhereTold told now (HasNewImage extent)
-told_new extent None mid now flush made = tt
-told_new extent (Some lists) mid now flush made = new now (subst (λ m. WhereTold m now (HasNewImage extent)) flush made)
+pub told_new : (geom : ImageGeometry) (told mid now : Option Contents) → mid ≡ option_map flushed told → WhereTold mid now (HasNewImage geom) → WhereTold told now (HasNewImage geom)
+told_new geom None mid now flush made = tt
+told_new geom (Some lists) mid now flush made = new now (subst (λ m. WhereTold m now (HasNewImage geom)) flush made)
   where
-    new : (now : Option Contents) → WhereTold (Some (flushed lists)) now (HasNewImage extent) → WhereTold (Some lists) now (HasNewImage extent)
+    new : (now : Option Contents) → WhereTold (Some (flushed lists)) now (HasNewImage geom) → WhereTold (Some lists) now (HasNewImage geom)
     new None made = made
     new (Some after) made = made
 
@@ -68,49 +68,49 @@ pub failed_later : (old mid new : Meter) → old.faults ≤ mid.faults → HasFa
 failed_later old mid new less rose = earlier old.faults mid.faults new.faults (2 ^ 64 - 1) less rose
 
 -- what was done, and its text went out
-whole : (extent : Extent) (told now : Option Contents) (old new : Meter) (s : Status) (text : List ℕ) → MakesBy extent told now old new s text → Makes extent told now old new s text
-whole extent told now old new status.Done text makes = makes
-whole extent told now old new status.Usage text makes = absurd makes
-whole extent told now old new status.TooLong text makes = absurd makes
-whole extent told now old new (status.Script line) text makes = absurd makes
-whole extent told now old new status.SourceFault text makes = absurd makes
-whole extent told now old new status.SinkFault text makes = absurd makes
-whole extent told now old new status.DiskFault text makes = makes
-whole extent told now old new (status.BadImage bad) text makes = makes
-whole extent told now old new (status.Geometry limit value) text makes = makes
-whole extent told now old new status.Memory text makes = makes
+whole : (geom : ImageGeometry) (told now : Option Contents) (old new : Meter) (s : Status) (text : List ℕ) → MakesBy geom told now old new s text → Makes geom told now old new s text
+whole geom told now old new status.Done text makes = makes
+whole geom told now old new status.Usage text makes = absurd makes
+whole geom told now old new status.TooLong text makes = absurd makes
+whole geom told now old new (status.Script line) text makes = absurd makes
+whole geom told now old new status.SourceFault text makes = absurd makes
+whole geom told now old new status.SinkFault text makes = absurd makes
+whole geom told now old new status.DiskFault text makes = makes
+whole geom told now old new (status.BadImage bad) text makes = makes
+whole geom told now old new (status.Geometry limit value) text makes = makes
+whole geom told now old new status.Memory text makes = makes
 
-pub made_whole : (extent : Extent) (told now : Option Contents) (old new : Meter) (before after : Option (List ℕ)) (s : Status) (text : List ℕ)
-    → MakesBy extent told now old new s text → Appends before after text → IsMade extent told now old new before after s
-made_whole extent told now old new before after s text makes gone = record { out = text; written = gone; makes = whole extent told now old new s text makes }
+pub made_whole : (geom : ImageGeometry) (told now : Option Contents) (old new : Meter) (before after : Option (List ℕ)) (s : Status) (text : List ℕ)
+    → MakesBy geom told now old new s text → Appends before after text → IsMade geom told now old new before after s
+made_whole geom told now old new before after s text makes gone = record { out = text; written = gone; makes = whole geom told now old new s text makes }
 
 -- or the sink failed in it
-pub made_cut : (extent : Extent) (told now : Option Contents) (old new : Meter) (before after : Option (List ℕ)) (s : Status) (text : List ℕ)
-    → MakesBy extent told now old new s text → PutsSome before after text → IsMade extent told now old new before after status.SinkFault
-made_cut extent told now old new before after s text makes some = record {
+pub made_cut : (geom : ImageGeometry) (told now : Option Contents) (old new : Meter) (before after : Option (List ℕ)) (s : Status) (text : List ℕ)
+    → MakesBy geom told now old new s text → PutsSome before after text → IsMade geom told now old new before after status.SinkFault
+made_cut geom told now old new before after s text makes some = record {
   out = some.gone;
   written = some.written;
   makes = record { status = s; text = text; makes = makes; cut = some.cut };
 }
 
 -- what has its last line alone as its text
-pub made_finished : (extent : Extent) (told now : Option Contents) (old new : Meter) (before after : Option (List ℕ)) (s ending : Status)
-    → MakesBy extent told now old new s (last_line s) → Finishes before after s ending → IsMade extent told now old new before after ending
-made_finished extent told now old new before after s ending makes (said_whole same line) =
-    subst (IsMade extent told now old new before after) (sym same) (made_whole extent told now old new before after s (last_line s) makes line)
-made_finished extent told now old new before after s ending makes (broken_off failed loud some) =
-    subst (IsMade extent told now old new before after) (sym failed) (made_cut extent told now old new before after s (last_line s) makes some)
+pub made_finished : (geom : ImageGeometry) (told now : Option Contents) (old new : Meter) (before after : Option (List ℕ)) (s ending : Status)
+    → MakesBy geom told now old new s (last_line s) → Finishes before after s ending → IsMade geom told now old new before after ending
+made_finished geom told now old new before after s ending makes (said_whole same line) =
+    subst (IsMade geom told now old new before after) (sym same) (made_whole geom told now old new before after s (last_line s) makes line)
+made_finished geom told now old new before after s ending makes (broken_off failed loud some) =
+    subst (IsMade geom told now old new before after) (sym failed) (made_cut geom told now old new before after s (last_line s) makes some)
 
 -- which faults it has, by its status
-pub no_source : (extent : Extent) (told now : Option Contents) (old new : Meter) (s : Status) (text : List ℕ) → MakesBy extent told now old new s text → ¬ (s ≡ status.SourceFault)
-no_source extent told now old new s text makes is = absurd (subst (λ e. MakesBy extent told now old new e text) is makes)
+pub no_source : (geom : ImageGeometry) (told now : Option Contents) (old new : Meter) (s : Status) (text : List ℕ) → MakesBy geom told now old new s text → ¬ (s ≡ status.SourceFault)
+no_source geom told now old new s text makes is = absurd (subst (λ e. MakesBy geom told now old new e text) is makes)
 
-pub no_sink : (extent : Extent) (told now : Option Contents) (old new : Meter) (s : Status) (text : List ℕ) → MakesBy extent told now old new s text → ¬ (s ≡ status.SinkFault)
-no_sink extent told now old new s text makes is = absurd (subst (λ e. MakesBy extent told now old new e text) is makes)
+pub no_sink : (geom : ImageGeometry) (told now : Option Contents) (old new : Meter) (s : Status) (text : List ℕ) → MakesBy geom told now old new s text → ¬ (s ≡ status.SinkFault)
+no_sink geom told now old new s text makes is = absurd (subst (λ e. MakesBy geom told now old new e text) is makes)
 
-pub disk_failed : (extent : Extent) (told now : Option Contents) (old new : Meter) (s : Status) (text : List ℕ) → MakesBy extent told now old new s text → s ≡ status.DiskFault → HasFailed old new
-disk_failed extent told now old new s text makes is =
-    let fault : MakesBy extent told now old new status.DiskFault text = subst (λ e. MakesBy extent told now old new e text) is makes in fault.1
+pub disk_failed : (geom : ImageGeometry) (told now : Option Contents) (old new : Meter) (s : Status) (text : List ℕ) → MakesBy geom told now old new s text → s ≡ status.DiskFault → HasFailed old new
+disk_failed geom told now old new s text makes is =
+    let fault : MakesBy geom told now old new status.DiskFault text = subst (λ e. MakesBy geom told now old new e text) is makes in fault.1
 
 -- the status that a last line is of, by the one that the run ends with
 pub finished_other : (before after : Option (List ℕ)) (s ending : Status) → Finishes before after s ending → (ending ≡ s) ⊎ (ending ≡ status.SinkFault)

@@ -4,7 +4,7 @@ use Rattle.std.specs.Prelude.{Option, None, IsSome}
 use Rattle.std.specs.Io.KnownBytes.{Appends}
 use Rattle.std.proofs.KnownBytes.{Appends-nil, Appends-trans}
 use Rattle.std.proofs.lemmas.List.{length-take}
-use Rattle.f2_format.specs.Geometry.{Extent, node_third, data_third}
+use Rattle.f2_format.specs.Geometry.{ImageGeometry, node_third, data_third}
 use Rattle.f2_disk.specs.Contents.{Contents}
 use Rattle.f2_layout.specs.Refusal.{geometry_of}
 use Rattle.f2_layout.specs.declared.geometry.BadGeometry.{BadGeometry}
@@ -75,24 +75,24 @@ found-none limits rows events to happened mount =
     }
 
 -- a core that was mounted on an image that was made with these sizes
-pub IsMounted-of : {D : Type 0} (extent : Extent) (made now : Option Contents) (core new : Seen D) (rows : ℕ)
-    → IsSome made → IsMade extent made core → Comes made now core new events.Mount (Found rows) → new.geometry ≡ core.geometry → IsMounted extent now new
-IsMounted-of extent made now core new rows tells is comes sized =
-    let state : IsIn core.geometry made core.volume core.history (initial new_image) = subst (λ (e : Extent). IsIn e made core.volume core.history (initial new_image)) (sym is.sizes) is.state in
+pub IsMounted-of : {D : Type 0} (geom : ImageGeometry) (made now : Option Contents) (core new : Seen D) (rows : ℕ)
+    → IsSome made → IsMade geom made core → Comes made now core new events.Mount (Found rows) → new.geometry ≡ core.geometry → IsMounted geom now new
+IsMounted-of geom made now core new rows tells is comes sized =
+    let state : IsIn core.geometry made core.volume core.history (initial new_image) = subst (λ (e : ImageGeometry). IsIn e made core.volume core.history (initial new_image)) (sym is.sizes) is.state in
     let come = comes.from_each (initial new_image) tells state in
-    let happened : Happened (limits_of extent) calm (initial new_image) come.events come.to = subst (λ (e : Extent). Happened (limits_of e) calm (initial new_image) come.events come.to) is.sizes come.leads.happened in
+    let happened : Happened (limits_of geom) calm (initial new_image) come.events come.to = subst (λ (e : ImageGeometry). Happened (limits_of e) calm (initial new_image) come.events come.to) is.sizes come.leads.happened in
     record {
       mounted = come.events;
       start = come.to;
-      found = mount_of (limits_of extent) calm 0 come.events (initial new_image) come.to happened (found-none (limits_of extent) rows come.events come.to happened come.leads.stands);
+      found = mount_of (limits_of geom) calm 0 come.events (initial new_image) come.to happened (found-none (limits_of geom) rows come.events come.to happened come.leads.stands);
       happened = happened;
       sizes = sized ∙ is.sizes;
       at = record { tells = comes.tells tells; in_state = come.goes.state; safe = come.goes.safe };
     }
 
 -- what a `mkfs` line prints
-abbrev pub mkfs_text : Extent → List ℕ
-mkfs_text extent = ended (made_spelling (node_third extent) (data_third extent))
+abbrev pub mkfs_text : ImageGeometry → List ℕ
+mkfs_text geom = ended (made_spelling (node_third geom) (data_third geom))
 
 -- the last of some parts
 parts-end : (limits : Limits) (from to : State) (lines : List Line) (parts : List Part) → PlaysLines limits from lines parts to → to ≡ state_after from parts
@@ -102,12 +102,12 @@ parts-end limits from to (line ∷ lines) [] played = absurd played
 parts-end limits from to (line ∷ lines) (part ∷ parts) played = parts-end limits part.after to lines parts played.1
 
 -- lines that are played on an image
-pub PlaysFlat-mkfs : {D : Type 0} (extent : Extent) (first told : Option Contents) (core : Seen D) (lines : List Line) (text : List ℕ)
-    → geometry_of extent ≡ Ok extent → (mounted : IsMounted extent first core) → PlaysFrom told (limits_of extent) mounted.start lines text
-    → PlaysFlat told (Mkfs extent.blocks extent.nat ∷ lines) (mkfs_text extent ++ text)
-PlaysFlat-mkfs extent first told core lines text sizes mounted plays =
-    let part : Part = record { text = mkfs_text extent; events = mounted.mounted; faults = calm; after = mounted.start } in
-    let mkfs : Line = Mkfs extent.blocks extent.nat in
+pub PlaysFlat-mkfs : {D : Type 0} (geom : ImageGeometry) (first told : Option Contents) (core : Seen D) (lines : List Line) (text : List ℕ)
+    → geometry_of geom ≡ Ok geom → (mounted : IsMounted geom first core) → PlaysFrom told (limits_of geom) mounted.start lines text
+    → PlaysFlat told (Mkfs geom.blocks geom.nat ∷ lines) (mkfs_text geom ++ text)
+PlaysFlat-mkfs geom first told core lines text sizes mounted plays =
+    let part : Part = record { text = mkfs_text geom; events = mounted.mounted; faults = calm; after = mounted.start } in
+    let mkfs : Line = Mkfs geom.blocks geom.nat in
     record {
       parts = part ∷ plays.played.parts;
       played = record {
@@ -119,31 +119,31 @@ PlaysFlat-mkfs extent first told core lines text sizes mounted plays =
         made = record { happened = mounted.happened; mounted = mounted.found; said = refl };
         played = plays.played.played;
         count = 0;
-        counted = image-counted (limits_of extent) plays.to mkfs lines (nothing_planned 0) part plays.played.parts refl plays.played.played plays.played.no_fault;
+        counted = image-counted (limits_of geom) plays.to mkfs lines (nothing_planned 0) part plays.played.parts refl plays.played.played plays.played.no_fault;
       };
-      more = subst (IsSafeWhereTold told) (parts-end (limits_of extent) mounted.start plays.to lines plays.played.parts plays.played.played) plays.safe;
-      printed = ap (λ t. mkfs_text extent ++ t) plays.played.printed;
+      more = subst (IsSafeWhereTold told) (parts-end (limits_of geom) mounted.start plays.to lines plays.played.parts plays.played.played) plays.safe;
+      printed = ap (λ t. mkfs_text geom ++ t) plays.played.printed;
     }
 
 -- the text of the `mkfs` line before what the lines after it print
-pub Ends-mkfs : {D : Type 0} (extent : Extent) (first told : Option Contents) (core : Seen D) (lines : List Line) (s : Status) (out : List ℕ)
-    → geometry_of extent ≡ Ok extent → (mounted : IsMounted extent first core) → Ends (λ t. PlaysFrom t (limits_of extent) mounted.start) told lines s out
-    → Ends PlaysFlat told (Mkfs extent.blocks extent.nat ∷ lines) s (mkfs_text extent ++ out)
-Ends-mkfs extent first told core lines status.Done out sizes mounted ends = PlaysFlat-mkfs extent first told core lines out sizes mounted ends
-Ends-mkfs extent first told core lines status.Memory out sizes mounted ends =
-    record { count = suc ends.count; holds = PlaysFlat-mkfs extent first None core (take ends.count lines) out sizes mounted ends.holds }
-Ends-mkfs extent first told core lines status.SinkFault out sizes mounted ends = record {
-  text = mkfs_text extent ++ ends.text;
-  first = record { count = suc ends.first.count; holds = PlaysFlat-mkfs extent first None core (take ends.first.count lines) ends.text sizes mounted ends.first.holds };
-  cut = record { rest = ends.cut.rest; whole = ap (λ t. mkfs_text extent ++ t) ends.cut.whole ∙ sym (append_assoc (mkfs_text extent) out ends.cut.rest) };
+pub Ends-mkfs : {D : Type 0} (geom : ImageGeometry) (first told : Option Contents) (core : Seen D) (lines : List Line) (s : Status) (out : List ℕ)
+    → geometry_of geom ≡ Ok geom → (mounted : IsMounted geom first core) → Ends (λ t. PlaysFrom t (limits_of geom) mounted.start) told lines s out
+    → Ends PlaysFlat told (Mkfs geom.blocks geom.nat ∷ lines) s (mkfs_text geom ++ out)
+Ends-mkfs geom first told core lines status.Done out sizes mounted ends = PlaysFlat-mkfs geom first told core lines out sizes mounted ends
+Ends-mkfs geom first told core lines status.Memory out sizes mounted ends =
+    record { count = suc ends.count; holds = PlaysFlat-mkfs geom first None core (take ends.count lines) out sizes mounted ends.holds }
+Ends-mkfs geom first told core lines status.SinkFault out sizes mounted ends = record {
+  text = mkfs_text geom ++ ends.text;
+  first = record { count = suc ends.first.count; holds = PlaysFlat-mkfs geom first None core (take ends.first.count lines) ends.text sizes mounted ends.first.holds };
+  cut = record { rest = ends.cut.rest; whole = ap (λ t. mkfs_text geom ++ t) ends.cut.whole ∙ sym (append_assoc (mkfs_text geom) out ends.cut.rest) };
 }
-Ends-mkfs extent first told core lines status.Usage out sizes mounted ends = absurd ends
-Ends-mkfs extent first told core lines status.TooLong out sizes mounted ends = absurd ends
-Ends-mkfs extent first told core lines (status.Script line) out sizes mounted ends = absurd ends
-Ends-mkfs extent first told core lines status.SourceFault out sizes mounted ends = absurd ends
-Ends-mkfs extent first told core lines status.DiskFault out sizes mounted ends = absurd ends
-Ends-mkfs extent first told core lines (status.BadImage bad) out sizes mounted ends = absurd ends
-Ends-mkfs extent first told core lines (status.Geometry limit value) out sizes mounted ends = absurd ends
+Ends-mkfs geom first told core lines status.Usage out sizes mounted ends = absurd ends
+Ends-mkfs geom first told core lines status.TooLong out sizes mounted ends = absurd ends
+Ends-mkfs geom first told core lines (status.Script line) out sizes mounted ends = absurd ends
+Ends-mkfs geom first told core lines status.SourceFault out sizes mounted ends = absurd ends
+Ends-mkfs geom first told core lines status.DiskFault out sizes mounted ends = absurd ends
+Ends-mkfs geom first told core lines (status.BadImage bad) out sizes mounted ends = absurd ends
+Ends-mkfs geom first told core lines (status.Geometry limit value) out sizes mounted ends = absurd ends
 
 -- a script whose sizes break no limit
 pub EndsScript-of : (told : Option Contents) (lines : List Line) (s : Status) (out : List ℕ) → Ends PlaysFlat told lines s out → EndsScript told lines s out
@@ -163,51 +163,51 @@ pub lines-first : (lines items all rest : List Line) (first one : Line) → item
 lines-first lines items all rest first one e f g h = sym (f ∙ e) ∙ g ∙ ap (λ l. l ∷ rest) h
 
 -- a script whose sizes break no limit
-pub EndsScript-mkfs : (told : Option Contents) (old new : Option (List ℕ)) (lines rest : List Line) (asked got : Extent) (s : Status)
+pub EndsScript-mkfs : (told : Option Contents) (old new : Option (List ℕ)) (lines rest : List Line) (asked got : ImageGeometry) (s : Status)
     → lines ≡ Mkfs asked.blocks asked.nat ∷ rest → Ok got ≡ geometry_of asked
     → (out : List ℕ) × Appends old new out × Ends PlaysFlat told (Mkfs got.blocks got.nat ∷ rest) s out → (out : List ℕ) × Appends old new out × EndsScript told lines s out
 EndsScript-mkfs told old new lines rest asked got s is sizes (out, written, ends) =
     let same : got ≡ asked = geometry_of-ok asked got (sym sizes) in
-    let all : Mkfs got.blocks got.nat ∷ rest ≡ lines = ap (λ (e : Extent). Mkfs e.blocks e.nat ∷ rest) same ∙ sym is in
+    let all : Mkfs got.blocks got.nat ∷ rest ≡ lines = ap (λ (e : ImageGeometry). Mkfs e.blocks e.nat ∷ rest) same ∙ sym is in
     (out, written, EndsScript-of told lines s out (subst (λ ls. Ends PlaysFlat told ls s out) all ends))
 
 -- a script whose sizes break one
-pub BreaksLimit-of : (lines rest : List Line) (asked : Extent) (bad : BadGeometry) → lines ≡ Mkfs asked.blocks asked.nat ∷ rest → Err bad ≡ geometry_of asked → BreaksLimit lines bad.limit bad.value
+pub BreaksLimit-of : (lines rest : List Line) (asked : ImageGeometry) (bad : BadGeometry) → lines ≡ Mkfs asked.blocks asked.nat ∷ rest → Err bad ≡ geometry_of asked → BreaksLimit lines bad.limit bad.value
 BreaksLimit-of lines rest asked bad is broken = subst (λ ls. BreaksLimit ls bad.limit bad.value) (sym is) (sym broken)
 
-pub EndsScript-broken : (now : Option (List ℕ)) (lines rest : List Line) (asked : Extent) (bad : BadGeometry)
+pub EndsScript-broken : (now : Option (List ℕ)) (lines rest : List Line) (asked : ImageGeometry) (bad : BadGeometry)
     → lines ≡ Mkfs asked.blocks asked.nat ∷ rest → Err bad ≡ geometry_of asked
     → (out : List ℕ) × Appends now now out × (BreaksLimit lines bad.limit bad.value × (out ≡ []))
 EndsScript-broken now lines rest asked bad is broken =
     ([], Appends-nil now, (BreaksLimit-of lines rest asked bad is broken, refl))
 
 -- the sink failed within the text of the `mkfs` line
-pub mkfs-fails : {D : Type 0} (extent : Extent) (first : Option Contents) (core : Seen D) (lines : List Line) (old new : Option (List ℕ)) (text : List ℕ)
-    → geometry_of extent ≡ Ok extent → IsMounted extent first core → text ≡ mkfs_text extent → PutsSome old new text
-    → (out : List ℕ) × Appends old new out × SomeCut (PlaysFlat None) (Mkfs extent.blocks extent.nat ∷ lines) out
-mkfs-fails extent first core lines old new text sizes mounted e some = (
+pub mkfs-fails : {D : Type 0} (geom : ImageGeometry) (first : Option Contents) (core : Seen D) (lines : List Line) (old new : Option (List ℕ)) (text : List ℕ)
+    → geometry_of geom ≡ Ok geom → IsMounted geom first core → text ≡ mkfs_text geom → PutsSome old new text
+    → (out : List ℕ) × Appends old new out × SomeCut (PlaysFlat None) (Mkfs geom.blocks geom.nat ∷ lines) out
+mkfs-fails geom first core lines old new text sizes mounted e some = (
   some.gone,
   some.written,
   record {
-    text = mkfs_text extent ++ [];
+    text = mkfs_text geom ++ [];
     first = record {
       count = suc zero;
-      holds = PlaysFlat-mkfs extent first None core [] [] sizes mounted record { to = mounted.start; played = PlaysTo-none (limits_of extent) mounted.start; safe = tt };
+      holds = PlaysFlat-mkfs geom first None core [] [] sizes mounted record { to = mounted.start; played = PlaysTo-none (limits_of geom) mounted.start; safe = tt };
     };
-    cut = record { rest = some.cut.rest; whole = append-nil (mkfs_text extent) ∙ sym e ∙ some.cut.whole };
+    cut = record { rest = some.cut.rest; whole = append-nil (mkfs_text geom) ∙ sym e ∙ some.cut.whole };
   },
 )
 
 -- the `mkfs` line was printed, and before the lines after it were run
-pub mkfs-goes : {D : Type 0} (extent : Extent) (first told : Option Contents) (core : Seen D) (lines : List Line) (s : Status) (old mid new : Option (List ℕ)) (text : List ℕ)
-    → geometry_of extent ≡ Ok extent → IsMounted extent first core → text ≡ mkfs_text extent → Appends old mid text
+pub mkfs-goes : {D : Type 0} (geom : ImageGeometry) (first told : Option Contents) (core : Seen D) (lines : List Line) (s : Status) (old mid new : Option (List ℕ)) (text : List ℕ)
+    → geometry_of geom ≡ Ok geom → IsMounted geom first core → text ≡ mkfs_text geom → Appends old mid text
     → ((from : State) → IsAt first core from → (out : List ℕ) × Appends mid new out × Ends (λ t. PlaysFrom t (limits_of core.geometry) from) told lines s out)
-    → (out : List ℕ) × Appends old new out × Ends PlaysFlat told (Mkfs extent.blocks extent.nat ∷ lines) s out
-mkfs-goes extent first told core lines s old mid new text sizes mounted e written runs =
+    → (out : List ℕ) × Appends old new out × Ends PlaysFlat told (Mkfs geom.blocks geom.nat ∷ lines) s out
+mkfs-goes geom first told core lines s old mid new text sizes mounted e written runs =
     let ended = runs mounted.start mounted.at in
-    let ends : Ends (λ t. PlaysFrom t (limits_of extent) mounted.start) told lines s ended.0 =
-    subst (λ (x : Extent). Ends (λ t. PlaysFrom t (limits_of x) mounted.start) told lines s ended.0) mounted.sizes ended.2 in (
-      mkfs_text extent ++ ended.0,
-      Appends-trans old mid new (mkfs_text extent) ended.0 (subst (λ t. Appends old mid t) e written) ended.1,
-      Ends-mkfs extent first told core lines s ended.0 sizes mounted ends,
+    let ends : Ends (λ t. PlaysFrom t (limits_of geom) mounted.start) told lines s ended.0 =
+    subst (λ (x : ImageGeometry). Ends (λ t. PlaysFrom t (limits_of x) mounted.start) told lines s ended.0) mounted.sizes ended.2 in (
+      mkfs_text geom ++ ended.0,
+      Appends-trans old mid new (mkfs_text geom) ended.0 (subst (λ t. Appends old mid t) e written) ended.1,
+      Ends-mkfs geom first told core lines s ended.0 sizes mounted ends,
     )

@@ -1,7 +1,7 @@
 -- What is written while the lines of a script are run, by the status that the run comes to.
 use Rattle.std.specs.Prelude.{◌≡◌, ℕ, false, List, [], ◌∷◌, take, Option, None, IsSome}
 use Rattle.std.specs.List.{AllByRecursion}
-use Rattle.f2_format.specs.Geometry.{Extent}
+use Rattle.f2_format.specs.Geometry.{ImageGeometry}
 use Rattle.f2_disk.specs.Contents.{Contents}
 use Rattle.f2_disk.specs.Meter.{Meter}
 use Rattle.f2_layout.specs.declared.geometry.Limit.{Limit}
@@ -92,12 +92,12 @@ abbrev pub PlaysOn : {D : Type 0} → Option Contents → Option Contents → Se
 PlaysOn then now old new line text = (from : State) → IsAt then old from → (to : State) × PlaysAs (limits_of old.geometry) from line text to × IsAt now new to
 
 -- a core on which a volume of the root alone was mounted
-pub record IsMounted {D : Type 0} (extent : Extent) (told : Option Contents) (core : Seen D) : Type 0 where
+pub record IsMounted {D : Type 0} (geom : ImageGeometry) (told : Option Contents) (core : Seen D) : Type 0 where
   pub mounted : List Happening
   pub start : State
   pub found : Mounts 0 Synced mounted
-  pub happened : Happened (limits_of extent) calm (initial new_image) mounted start
-  pub sizes : core.geometry ≡ extent
+  pub happened : Happened (limits_of geom) calm (initial new_image) mounted start
+  pub sizes : core.geometry ≡ geom
   pub at : IsAt told core start
 
 -- what the lines of a script print, and what they leave on a disk where it is told

@@ -2,7 +2,7 @@
 ghost use Rattle.std.specs.Prelude.{◌≡◌, ◌↔◌, ℕ, List, IsTrue, map, string_bytes};
 ghost use Rattle.f2_disk.specs.Faults.{Rose};
 ghost use Rattle.f2_disk.specs.Meter.{HasFailed};
-ghost use Rattle.f2_format.specs.Geometry.{Extent};
+ghost use Rattle.f2_format.specs.Geometry.{ImageGeometry};
 ghost use Rattle.f2_script.specs.declared.script.Grammar.TheVariants.{Replay};
 ghost use Rattle.f2_play.specs.Due.{IsDue};
 ghost use Rattle.f2_top.specs.Reads.{IsTaken};
@@ -50,8 +50,8 @@ pub fn run_plain<S: Source, K: Sink, B: Bench, D: Disk>(
         → (bytes : List ℕ) → IsTaken (S.remaining source.old) (S.remaining source.new) bytes → IsDue Replay bytes result.0 }
 
     // A new image stands on the disk as the words ask, or what kept it from that is told.
-    ensures makes { (extent : Extent) → IsMkfs (map string_bytes words.now) extent
-        → IsMade extent (D.contents disk) (D.contents result.2) (D.meter disk) (D.meter result.2) (K.written sink.old) (K.written sink.new) result.0 }
+    ensures makes { (geom : ImageGeometry) → IsMkfs (map string_bytes words.now) geom
+        → IsMade geom (D.contents disk) (D.contents result.2) (D.meter disk) (D.meter result.2) (K.written sink.old) (K.written sink.new) result.0 }
 
     // The tree that the image on the disk stands for is printed, or what kept it from that is told.
     ensures lists { IsTree (map string_bytes words.now)
@@ -102,8 +102,8 @@ pub fn run<R: Threads + Wait + Sync, S: Source, K: Sink, B: Bench, D: Disk + Sen
     ensures due { IsReplay (map string_bytes words.now)
         → (bytes : List ℕ) → IsTaken (S.remaining source.old) (S.remaining source.new) bytes → IsDue Replay bytes result.0 }
 
-    ensures makes { (extent : Extent) → IsMkfs (map string_bytes words.now) extent
-        → IsMade extent (D.contents disk) (D.contents result.2) (D.meter disk) (D.meter result.2) (K.written sink.old) (K.written sink.new) result.0 }
+    ensures makes { (geom : ImageGeometry) → IsMkfs (map string_bytes words.now) geom
+        → IsMade geom (D.contents disk) (D.contents result.2) (D.meter disk) (D.meter result.2) (K.written sink.old) (K.written sink.new) result.0 }
     ensures lists { IsTree (map string_bytes words.now)
         → IsListed (D.contents disk) (D.contents result.2) (D.meter disk) (D.meter result.2) (K.written sink.old) (K.written sink.new) result.0 }
     ensures usage { ¬ (IsReplay (map string_bytes words.now)) → IsNoMkfs (map string_bytes words.now) → ¬ (IsTree (map string_bytes words.now)) → IsRefused (K.written sink.old) (K.written sink.new) result.0 }

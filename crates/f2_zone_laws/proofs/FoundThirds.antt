@@ -20,8 +20,8 @@ use Rattle.f2_zone_laws.proofs.Counts.{Numbers, more_things, without, without_fe
 use Rattle.f2_zone_laws.proofs.KeptThirds.{nodes_few}
 
 -- the node log of a sound image is no longer than a third of the zone
-chain_short : (image : Image) (point : Checkpoint) → IsSound image point → length (chain image point) ≤ node_third point.extent
-chain_short image point sound = elim (cases_lt (node_third point.extent) (length (chain image point))) as (λ _. length (chain image point) ≤ node_third point.extent) [
+chain_short : (image : Image) (ckpt : Checkpoint) → IsSound image ckpt → length (chain image ckpt) ≤ node_third ckpt.geom
+chain_short image ckpt sound = elim (cases_lt (node_third ckpt.geom) (length (chain image ckpt))) as (λ _. length (chain image ckpt) ≤ node_third ckpt.geom) [
   | inl long ↦ absurd (sound ChainLong _ no_end (long, refl))
   | inr short ↦ omega (arith, short)
 ]
@@ -31,33 +31,33 @@ chain_short image point sound = elim (cases_lt (node_third point.extent) (length
 
 module _ (held : Reference) (found : Numbers) (are : (at : ℕ) → set.contains found at ≡ true → IsFoundNode held at) where
   abbrev log : List ℕ
-  log = map_list (λ one. one.at) (chain held.image held.point)
+  log = map_list (λ one. one.at) (chain held.image held.ckpt)
 
   -- what is no block of the log is a node of the base
-  off_log : (at : ℕ) → AllByRecursion (λ k. at ≢ k) log → IsFoundNode held at → (ino offset nid : ℕ) × (IsNode held.image held.point ino offset nid × (node_address held.image held.point nid ≡ at))
+  off_log : (at : ℕ) → AllByRecursion (λ k. at ≢ k) log → IsFoundNode held at → (ino offset nid : ℕ) × (IsNode held.image held.ckpt ino offset nid × (node_address held.image held.ckpt nid ≡ at))
   off_log at off (base ino offset nid is stands) = (ino, offset, nid, (is, stands))
   off_log at off (logged there) = absurd (not_among log at off there)
 
-  off_log_all : (at : ℕ) → set.contains (without found log) at ≡ true → (ino offset nid : ℕ) × (IsNode held.image held.point ino offset nid × (node_address held.image held.point nid ≡ at))
+  off_log_all : (at : ℕ) → set.contains (without found log) at ≡ true → (ino offset nid : ℕ) × (IsNode held.image held.ckpt ino offset nid × (node_address held.image held.ckpt nid ≡ at))
   off_log_all at there = let kept = without_in found log at there in off_log at kept.1 (are at kept.0)
 
 pub found_nodes_fit : FoundNodesFit
 found_nodes_fit lists layout state found keeps are =
     let held = layout.base in
-    let off = nodes_few held.image held.point keeps.base.means.sound (without found (log held found are)) (off_log_all held found are) in
+    let off = nodes_few held.image held.ckpt keeps.base.means.sound (without found (log held found are)) (off_log_all held found are) in
     let rest = without_fewer found (log held found are) in
-    let long = length-map (chain held.image held.point) (λ one. one.at) in
-    let short = chain_short held.image held.point keeps.base.means.sound in
+    let long = length-map (chain held.image held.ckpt) (λ one. one.at) in
+    let short = chain_short held.image held.ckpt keeps.base.means.sound in
     omega (arith, off, rest, long, short)
 
 pub found_pages_fit : FoundPagesFit
-found_pages_fit lists layout state found keeps are = elim (cases_lt (2 * data_third layout.base.point.extent) (set.len found)) as (λ _. set.len found ≤ 2 * data_third layout.base.point.extent) [
-  | inl more ↦ absurd (none_full image point keeps.base.means.sound (2 * data_third point.extent) (faults.all_blocks refl (more_things (λ at block. IsSomeBlock image point block × (at ≡ block)) (λ k q block is also. is.1 ∙ sym also.1) (IsSomeBlock image point) (λ at block is. is.0) found (λ at there. (at, (are at there, refl))) (2 * data_third point.extent) more)))
+found_pages_fit lists layout state found keeps are = elim (cases_lt (2 * data_third layout.base.ckpt.geom) (set.len found)) as (λ _. set.len found ≤ 2 * data_third layout.base.ckpt.geom) [
+  | inl more ↦ absurd (none_full image ckpt keeps.base.means.sound (2 * data_third ckpt.geom) (faults.all_blocks refl (more_things (λ at block. IsSomeBlock image ckpt block × (at ≡ block)) (λ k q block is also. is.1 ∙ sym also.1) (IsSomeBlock image ckpt) (λ at block is. is.0) found (λ at there. (at, (are at there, refl))) (2 * data_third ckpt.geom) more)))
   | inr few ↦ omega (arith, few)
 ]
   where
     image : Image
     image = layout.base.image
 
-    point : Checkpoint
-    point = layout.base.point
+    ckpt : Checkpoint
+    ckpt = layout.base.ckpt

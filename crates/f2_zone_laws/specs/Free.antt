@@ -18,7 +18,7 @@ FreeNodesAreFree =
     KeepsLog lists layout state →
     CoversNodes space layout places →
     IsLeastFree space at →
-    IsTrue (is_in_node layout.base.point.extent at) × IsFree layout at × IsElsewhere places at × (at < length lists)
+    IsTrue (is_in_node layout.base.ckpt.geom at) × IsFree layout at × IsElsewhere places at × (at < length lists)
 
 -- one of the data zone
 abbrev pub FreePagesAreFree : Type 0
@@ -27,7 +27,7 @@ FreePagesAreFree =
     KeepsLog lists layout state →
     CoversPages space layout places →
     IsLeastFree space at →
-    IsTrue (is_in_data layout.base.point.extent at) × IsFree layout at × IsElsewhere places at × (at < length lists)
+    IsTrue (is_in_data layout.base.ckpt.geom at) × IsFree layout at × IsElsewhere places at × (at < length lists)
 
 -- one of the node zone, while a mount is at work
 abbrev pub FreeNodesOfMounts : Type 0
@@ -37,7 +37,7 @@ FreeNodesOfMounts =
     CoversNodes space layout places →
     CoversFoundLog space layout →
     IsLeastFree space at →
-    IsTrue (is_in_node layout.base.point.extent at) × IsFree layout at × IsElsewhere places at × (at < length lists)
+    IsTrue (is_in_node layout.base.ckpt.geom at) × IsFree layout at × IsElsewhere places at × (at < length lists)
 
 -- one of the data zone
 abbrev pub FreePagesOfMounts : Type 0
@@ -47,4 +47,4 @@ FreePagesOfMounts =
     CoversPages space layout places →
     CoversFoundMarks space layout →
     IsLeastFree space at →
-    IsTrue (is_in_data layout.base.point.extent at) × IsFree layout at × IsElsewhere places at × (at < length lists)
+    IsTrue (is_in_data layout.base.ckpt.geom at) × IsFree layout at × IsElsewhere places at × (at < length lists)

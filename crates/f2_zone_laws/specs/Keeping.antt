@@ -11,19 +11,19 @@ use Rattle.f2_stored.specs.Layout.{Reference, Layout}
 
 -- what a zone of node blocks keeps are the addresses of the base's nodes
 pub record KeepsNodes (space : Space) (layout : Layout) : Type 0 where
-  pub third : space.c ≡ node_third layout.base.point.extent
+  pub third : space.c ≡ node_third layout.base.ckpt.geom
   pub old : set.FinSet nat_cmp
-  pub are : (at : ℕ) → set.contains old at ≡ true → (ino offset nid : ℕ) × (IsNode layout.base.image layout.base.point ino offset nid × (node_address layout.base.image layout.base.point nid ≡ at))
+  pub are : (at : ℕ) → set.contains old at ≡ true → (ino offset nid : ℕ) × (IsNode layout.base.image layout.base.ckpt ino offset nid × (node_address layout.base.image layout.base.ckpt nid ≡ at))
   pub kept : space.kept ≤ set.len old
 
 -- what a zone of data blocks keeps are the addresses of the base's pages
 pub record KeepsPages (space : Space) (layout : Layout) : Type 0 where
-  pub third : space.c ≡ data_third layout.base.point.extent
+  pub third : space.c ≡ data_third layout.base.ckpt.geom
   pub old : set.FinSet nat_cmp
-  pub are : (at : ℕ) → set.contains old at ≡ true → (ino page : ℕ) × IsBasePage layout.base.image layout.base.point ino page at
+  pub are : (at : ℕ) → set.contains old at ≡ true → (ino page : ℕ) × IsBasePage layout.base.image layout.base.ckpt ino page at
   pub kept : space.kept ≤ set.len old
 
 -- a node of the base stands at an address of an image, or a block of its node log
 pub data IsFoundNode (held : Reference) (at : ℕ) : Type 0 where
-  base : (ino offset nid : ℕ) → IsNode held.image held.point ino offset nid → node_address held.image held.point nid ≡ at → IsFoundNode held at
-  logged : Contains (map_list (λ one. one.at) (chain held.image held.point)) at → IsFoundNode held at
+  base : (ino offset nid : ℕ) → IsNode held.image held.ckpt ino offset nid → node_address held.image held.ckpt nid ≡ at → IsFoundNode held at
+  logged : Contains (map_list (λ one. one.at) (chain held.image held.ckpt)) at → IsFoundNode held at

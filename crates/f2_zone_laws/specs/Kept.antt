@@ -25,12 +25,12 @@ FoundNodesFit =
     (lists : Contents) (layout : Layout) (state : State) (found : set.FinSet nat_cmp) →
     KeepsImage lists layout state →
     ((at : ℕ) → set.contains found at ≡ true → IsFoundNode layout.base at) →
-    set.len found ≤ 2 * node_third layout.base.point.extent
+    set.len found ≤ 2 * node_third layout.base.ckpt.geom
 
 -- the pages of the base that a mount finds, and those of its marks
 abbrev pub FoundPagesFit : Type 0
 FoundPagesFit =
     (lists : Contents) (layout : Layout) (state : State) (found : set.FinSet nat_cmp) →
     KeepsImage lists layout state →
-    ((at : ℕ) → set.contains found at ≡ true → IsSomeBlock layout.base.image layout.base.point at) →
-    set.len found ≤ 2 * data_third layout.base.point.extent
+    ((at : ℕ) → set.contains found at ≡ true → IsSomeBlock layout.base.image layout.base.ckpt at) →
+    set.len found ≤ 2 * data_third layout.base.ckpt.geom

@@ -7,5 +7,5 @@ use Rattle.f2_call_laws.proofs.calls.calls_keep.Goals as goal
 
 pub returns : goal.returns
 returns c = λ lists layout state places now unwritten left request ino whole takes follows.
-    changed_keeps (image_limits layout.base.point.extent) lists layout state (called state request ino) places now unwritten left whole (tree_proper lists layout state places unwritten whole request ino takes) follows
+    changed_keeps (image_limits layout.base.ckpt.geom) lists layout state (called state request ino) places now unwritten left whole (tree_proper lists layout state places unwritten whole request ino takes) follows
     (call_right lists layout state places unwritten whole request ino takes)

@@ -5,13 +5,13 @@ use Rattle.f2_core.proofs.checkpoints.find.Goals as goal
 
 pub returns-then-ne-clause-bad : goal.returns-then-ne-clause-bad
 returns-then-ne-clause-bad g c = λ _.
-    let extent = c.args.geometry.now in
+    let geom = c.args.geometry.now in
     let was = g.D.Disk.contents c.args.disk.now in
     let tree = c.in-Ok.field-0.tree in
     let stored = c.in-Ok.field-0.stored in
     let flush = on_ok c.flush.result (sym c.is_err.ensures.value ∙ c.if-is_err.false) c.flush.ensures.flushed in
-    let found = finds extent was (g.D.Disk.contents c.flush.new.self) tree stored flush c.in-Ok.ensures.found in
-    finds_other extent was (record { files = tree; stored = stored }) found (λ flat sizes. true≢false (sym c.if-ne.true ∙ c.ne.ensures ∙ ap not (same_sizes stored.geometry extent sizes)))
+    let found = finds geom was (g.D.Disk.contents c.flush.new.self) tree stored flush c.in-Ok.ensures.found in
+    finds_other geom was (record { files = tree; stored = stored }) found (λ flat sizes. true≢false (sym c.if-ne.true ∙ c.ne.ensures ∙ ap not (same_sizes stored.geometry geom sizes)))
 
 pub returns-then-ne-clause-kept : goal.returns-then-ne-clause-kept
 returns-then-ne-clause-kept g c =
@@ -20,14 +20,14 @@ returns-then-ne-clause-kept g c =
 
 pub returns-in-Ok-Some-clause-found : goal.returns-in-Ok-Some-clause-found
 returns-in-Ok-Some-clause-found g c =
-    let extent = c.args.geometry.now in
+    let geom = c.args.geometry.now in
     let was = g.D.Disk.contents c.args.disk.now in
     let tree = c.in-Ok.field-0.tree in
     let stored = c.in-Ok.field-0.stored in
     let flush = on_ok c.flush.result (sym c.is_err.ensures.value ∙ c.if-is_err.false) c.flush.ensures.flushed in
-    let found = finds extent was (g.D.Disk.contents c.flush.new.self) tree stored flush c.in-Ok.ensures.found in
+    let found = finds geom was (g.D.Disk.contents c.flush.new.self) tree stored flush c.in-Ok.ensures.found in
     let taken = rw c.in-Ok-Some.field-0-is at c.in-Ok-Some.ensures in
-    subst (λ files. FindsHeld extent was (record { files = files; stored = stored })) (sym taken.0) found
+    subst (λ files. FindsHeld geom was (record { files = files; stored = stored })) (sym taken.0) found
 
 pub returns-in-Ok-Some-clause-kept : goal.returns-in-Ok-Some-clause-kept
 returns-in-Ok-Some-clause-kept g c =
@@ -36,14 +36,14 @@ returns-in-Ok-Some-clause-kept g c =
 
 pub returns-in-Ok-None-clause-bad : goal.returns-in-Ok-None-clause-bad
 returns-in-Ok-None-clause-bad g c = λ _.
-    let extent = c.args.geometry.now in
+    let geom = c.args.geometry.now in
     let was = g.D.Disk.contents c.args.disk.now in
     let tree = c.in-Ok.field-0.tree in
     let stored = c.in-Ok.field-0.stored in
     let flush = on_ok c.flush.result (sym c.is_err.ensures.value ∙ c.if-is_err.false) c.flush.ensures.flushed in
-    let found = finds extent was (g.D.Disk.contents c.flush.new.self) tree stored flush c.in-Ok.ensures.found in
+    let found = finds geom was (g.D.Disk.contents c.flush.new.self) tree stored flush c.in-Ok.ensures.found in
     let other = rw c.in-Ok-None.field-0-is at c.in-Ok-None.ensures in
-    finds_other extent was (record { files = tree; stored = stored }) found (λ flat sizes. other flat)
+    finds_other geom was (record { files = tree; stored = stored }) found (λ flat sizes. other flat)
 
 pub returns-in-Ok-None-clause-kept : goal.returns-in-Ok-None-clause-kept
 returns-in-Ok-None-clause-kept g c =

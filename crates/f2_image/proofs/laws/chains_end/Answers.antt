@@ -4,4 +4,4 @@ use Rattle.f2_image.proofs.laws.chains_end.Goals as goal
 
 pub returns : goal.returns
 unfolding chain
-returns c = λ image point. chain_from-ends image _ _ _
+returns c = λ image ckpt. chain_from-ends image _ _ _

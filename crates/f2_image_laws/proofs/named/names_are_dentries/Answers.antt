@@ -5,4 +5,4 @@ pub returns-clause-rows : goal.returns-clause-rows
 returns-clause-rows c = row_has_name
 
 pub returns-clause-dentries : goal.returns-clause-dentries
-returns-clause-dentries c = λ image point tree base. base.names
+returns-clause-dentries c = λ image ckpt tree base. base.names

@@ -6,8 +6,8 @@ use Rattle.f2_laid_laws.proofs.Sound.{sound, clean}
 use Rattle.f2_laid_laws.proofs.laws.laid_images_mean.Goals as goal
 
 pub returns : goal.returns
-returns c image point tree stored can laid =
-    let is : IsStored image point tree stored = record { can = subst (λ extent. IsStorable extent tree) (sym laid.extent) can; laid = laid } in (
-      record { checkpoint = laid.checkpoint; sound = sound image point tree stored is; is_base = is_base image point tree stored is; are_marks = no_marks image point tree stored is tree },
-      clean image point tree stored is,
+returns c image ckpt tree stored can laid =
+    let is : IsStored image ckpt tree stored = record { can = subst (λ geom. IsStorable geom tree) (sym laid.geom) can; laid = laid } in (
+      record { checkpoint = laid.checkpoint; sound = sound image ckpt tree stored is; is_base = is_base image ckpt tree stored is; are_marks = no_marks image ckpt tree stored is tree },
+      clean image ckpt tree stored is,
     )

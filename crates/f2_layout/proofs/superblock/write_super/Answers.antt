@@ -1,7 +1,7 @@
 use Rattle.std.proofs.Common.{◌∙◌, ℕ, List, ap, sym, subst, arith}
 use Rattle.f2_format.specs.Bytes.{zeros}
-use Rattle.f2_format.specs.Superblock.{IsSuper, super_extent}
-use Rattle.f2_layout.proofs.SuperLemmas.{super_extent-super_block, IsSuper-super_block}
+use Rattle.f2_format.specs.Superblock.{IsSuper, super_geom}
+use Rattle.f2_layout.proofs.SuperLemmas.{super_geom-super_block, IsSuper-super_block}
 use Rattle.f2_layout.proofs.superblock.write_super.Goals as goal
 
 pub returns-clause-written : goal.returns-clause-written
@@ -13,7 +13,7 @@ returns-clause-reads_back c =
     let sound = c.nat.ensures.sound in
     let most_blocks = sound.most_blocks in
     let most_nat = sound.most_nat in
-    ap super_extent (returns-clause-written c) ∙ super_extent-super_block c.args.g.now (omega arith) (omega arith)
+    ap super_geom (returns-clause-written c) ∙ super_geom-super_block c.args.g.now (omega arith) (omega arith)
 
 pub returns-clause-right : goal.returns-clause-right
 returns-clause-right c device within =

@@ -9,17 +9,17 @@ both (Err fault) P Q X give one other = tt
 pub returns-clause-rolled : goal.returns-clause-rolled
 returns-clause-rolled g c =
     both c.roll_files.result _ _ _
-    (λ rolls are pages image point ground fine.
-    let marks = c.in_ok-check_names.ensures.marks image point ground.base ground.chain_is in
+    (λ rolls are pages image ckpt ground fine.
+    let marks = c.in_ok-check_names.ensures.marks image ckpt ground.base ground.chain_is in
     record {
       right = record {
         base = ground.base;
         log = fine;
-        nids = c.in_ok-check_nids.ensures.nids image point ground.base ground.chain_is;
-        apart = c.in_ok-check_nids.ensures.apart image point ground.base ground.chain_is;
+        nids = c.in_ok-check_nids.ensures.nids image ckpt ground.base ground.chain_is;
+        apart = c.in_ok-check_nids.ensures.apart image ckpt ground.base ground.chain_is;
         marks = marks;
-        pages = pages image point ground.tells ground.extent_is ground.base ground.chain_is fine marks;
+        pages = pages image ckpt ground.tells ground.geom_is ground.base ground.chain_is fine marks;
       };
-      rolls = are image point ground.tells ground.extent_is ground.base ground.chain_is fine marks;
+      rolls = are image ckpt ground.tells ground.geom_is ground.base ground.chain_is fine marks;
     })
     c.roll_files.ensures.rolls c.roll_files.ensures.pages

@@ -35,45 +35,45 @@ has_dent false e = sym e
 same_kind : (a b : Kind) → Some a ≡ Some b → a ≡ b
 same_kind a b e = cc
 
-right_mark : (image : Image) (point : Checkpoint) (block : List ℕ) (footer : Footer) (kind : Kind) → footer ≡ footer_of block → inode_kind block ≡ Some kind → kind ≢ Directory → ¬ (IsDirectoryOf image point footer.ino)
-    → (¬ (IsReached image point footer.ino) → footer.dent ≡ true) → IsRightMark image point block
-right_mark image point block footer kind own says other file bound =
+right_mark : (image : Image) (ckpt : Checkpoint) (block : List ℕ) (footer : Footer) (kind : Kind) → footer ≡ footer_of block → inode_kind block ≡ Some kind → kind ≢ Directory → ¬ (IsDirectoryOf image ckpt footer.ino)
+    → (¬ (IsReached image ckpt footer.ino) → footer.dent ≡ true) → IsRightMark image ckpt block
+right_mark image ckpt block footer kind own says other file bound =
     let ino = ap (λ (f : Footer). f.ino) own in
     record {
       kind = λ e. other (same_kind kind Directory (sym says ∙ e));
-      file = λ directory. file (subst (IsDirectoryOf image point) (sym ino) directory);
-      bound = λ fresh. sym (ap (λ (f : Footer). f.dent) own) ∙ bound (λ up. fresh (subst (IsReached image point) ino up));
+      file = λ directory. file (subst (IsDirectoryOf image ckpt) (sym ino) directory);
+      bound = λ fresh. sym (ap (λ (f : Footer). f.dent) own) ∙ bound (λ up. fresh (subst (IsReached image ckpt) ino up));
     }
 
 pub returns-then-eq-clause-fault : goal.returns-then-eq-clause-fault
-returns-then-eq-clause-fault c image point place block base marked own kind =
+returns-then-eq-clause-fault c image ckpt place block base marked own kind =
     let ino = sym (ap (λ (f : Footer). f.ino) own) in
     elim c.then-eq.branch [
       | then-eq-via-then-eq w ↦ (base.has, faults.marked_directory place block marked ino (inl (kind ∙ ap Some (is_directory c.args.kind w.if-eq.ensures))))
       | then-eq-via-else-eq+then-is_some w ↦ (
           let there = ap is_some (sym w.get.ensures) ∙ is_some-copied w.get.result ∙ sym w.if-is_some.ensures in
-          (base.has, faults.marked_directory place block marked ino (inr (directory_in image point c.args.walk.now base c.args.footer.ino there))))
+          (base.has, faults.marked_directory place block marked ino (inr (directory_in image ckpt c.args.walk.now base c.args.footer.ino there))))
     ]
 
 pub returns-then-contains-clause-right : goal.returns-then-contains-clause-right
-returns-then-contains-clause-right c image point block base own kind =
+returns-then-contains-clause-right c image ckpt block base own kind =
     let none = ap is_some (sym c.get.ensures) ∙ is_some-copied c.get.result ∙ sym c.if-is_some.ensures in
-    right_mark image point block c.args.footer c.args.kind own kind (is_other c.args.kind c.if-eq.ensures) (not_directory image point c.args.walk.now base c.args.footer.ino none)
-    (λ fresh. absurd (fresh (reached_in image point c.args.walk.now base c.args.footer.ino (sym c.if-contains.ensures))))
+    right_mark image ckpt block c.args.footer c.args.kind own kind (is_other c.args.kind c.if-eq.ensures) (not_directory image ckpt c.args.walk.now base c.args.footer.ino none)
+    (λ fresh. absurd (fresh (reached_in image ckpt c.args.walk.now base c.args.footer.ino (sym c.if-contains.ensures))))
 
 pub returns-then-contains-clause-old : goal.returns-then-contains-clause-old
-returns-then-contains-clause-old c old image point base = reached_in image point c.args.walk.now base c.args.footer.ino (sym c.if-contains.ensures)
+returns-then-contains-clause-old c old image ckpt base = reached_in image ckpt c.args.walk.now base c.args.footer.ino (sym c.if-contains.ensures)
 
 pub returns-then-not-footer-clause-fault : goal.returns-then-not-footer-clause-fault
-returns-then-not-footer-clause-fault c image point place block base marked own kind =
-    let fresh = not_reached image point c.args.walk.now base c.args.footer.ino (sym c.if-contains.ensures) in
+returns-then-not-footer-clause-fault c image ckpt place block base marked own kind =
+    let fresh = not_reached image ckpt c.args.walk.now base c.args.footer.ino (sym c.if-contains.ensures) in
     (base.has, faults.unbound place block marked (sym (ap (λ (f : Footer). f.ino) own)) fresh (sym (ap (λ (f : Footer). f.dent) own) ∙ no_dent c.args.footer.dent c.if-not-footer.true))
 
 pub returns-clause-right : goal.returns-clause-right
-returns-clause-right c image point block base own kind =
+returns-clause-right c image ckpt block base own kind =
     let none = ap is_some (sym c.get.ensures) ∙ is_some-copied c.get.result ∙ sym c.if-is_some.ensures in
-    right_mark image point block c.args.footer c.args.kind own kind (is_other c.args.kind c.if-eq.ensures) (not_directory image point c.args.walk.now base c.args.footer.ino none)
+    right_mark image ckpt block c.args.footer c.args.kind own kind (is_other c.args.kind c.if-eq.ensures) (not_directory image ckpt c.args.walk.now base c.args.footer.ino none)
     (λ fresh. has_dent c.args.footer.dent c.if-not-footer.false)
 
 pub returns-clause-fresh : goal.returns-clause-fresh
-returns-clause-fresh c new image point base = not_reached image point c.args.walk.now base c.args.footer.ino (sym c.if-contains.ensures)
+returns-clause-fresh c new image ckpt base = not_reached image ckpt c.args.walk.now base c.args.footer.ino (sym c.if-contains.ensures)

@@ -7,4 +7,4 @@ use Rattle.f2_overlay.specs.Brought.{AreRightTo}
 use Rattle.f2_overlay.proofs.names.check_names.Given as goal
 
 abbrev pub invariant-loop-logged : goal.invariant-loop-logged
-invariant-loop-logged l = (image : Image) (point : Checkpoint) → IsBaseRead image point l.walk → l.log ≡ chain image point → AreRightTo image point l.logged-index l.brought
+invariant-loop-logged l = (image : Image) (ckpt : Checkpoint) → IsBaseRead image ckpt l.walk → l.log ≡ chain image ckpt → AreRightTo image ckpt l.logged-index l.brought

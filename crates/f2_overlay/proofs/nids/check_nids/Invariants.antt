@@ -7,4 +7,4 @@ use Rattle.f2_overlay.specs.Nids.{IsCheckedTo}
 use Rattle.f2_overlay.proofs.nids.check_nids.Given as goal
 
 abbrev pub invariant-loop-place : goal.invariant-loop-place
-invariant-loop-place l = (image : Image) (point : Checkpoint) → IsBaseRead image point l.walk → l.log ≡ chain image point → IsCheckedTo image point l.place l.owners
+invariant-loop-place l = (image : Image) (ckpt : Checkpoint) → IsBaseRead image ckpt l.walk → l.log ≡ chain image ckpt → IsCheckedTo image ckpt l.place l.owners

@@ -7,4 +7,4 @@ use Rattle.f2_overlay.specs.Owning.{AreBaseTo}
 use Rattle.f2_overlay.proofs.owners.owners_of_base.Given as goal
 
 abbrev pub invariant-loop-ino : goal.invariant-loop-ino
-invariant-loop-ino l = (image : Image) (point : Checkpoint) → HasTable point → point.extent ≡ l.g → IsBaseRead image point l.walk → AreBaseTo image point l.ino l.owners
+invariant-loop-ino l = (image : Image) (ckpt : Checkpoint) → HasTable ckpt → ckpt.geom ≡ l.g → IsBaseRead image ckpt l.walk → AreBaseTo image ckpt l.ino l.owners

@@ -6,7 +6,7 @@ use Rattle.f2_overlay.proofs.PutPages.{put_to_none, put_to_more}
 use Rattle.f2_overlay.proofs.putting.put_addresses.Goals as goal
 
 pub loop-slot-init : goal.loop-slot-init
-loop-slot-init c = record { put = put_to_none c.args.first.page c.args.addresses.now c.args.pages.now; more = more_same c.args.owners.now; own = λ own. own; right = λ image point sizes from right. right }
+loop-slot-init c = record { put = put_to_none c.args.first.page c.args.addresses.now c.args.pages.now; more = more_same c.args.owners.now; own = λ own. own; right = λ image ckpt sizes from right. right }
 
 pub loop-slot-preserved : goal.loop-slot-preserved
 loop-slot-preserved c =
@@ -16,14 +16,14 @@ loop-slot-preserved c =
       put = put_to_more c.args.first.page c.args.addresses.now c.loop-slot.slot _ _ _ before.put one.put;
       more = more_then _ _ _ before.more one.more;
       own = λ own. one.own (before.own own);
-      right = λ image point sizes from right. one.right image point sizes (from c.loop-slot.slot c.loop-slot-test.true) (before.right image point sizes from right);
+      right = λ image ckpt sizes from right. one.right image ckpt sizes (from c.loop-slot.slot c.loop-slot-test.true) (before.right image ckpt sizes from right);
     }
 
 pub returns-in_err-put_page-clause-fault : goal.returns-in_err-put_page-clause-fault
 returns-in_err-put_page-clause-fault c =
     fault_holds _ _ _ c.from_residual.ensures.1
-    (λ image point has sizes from right.
-    c.in_err-put_page.ensures.fault image point has sizes (from c.loop-slot.slot c.loop-slot-test.true) (c.loop-slot.invariant.right image point sizes from right))
+    (λ image ckpt has sizes from right.
+    c.in_err-put_page.ensures.fault image ckpt has sizes (from c.loop-slot.slot c.loop-slot-test.true) (c.loop-slot.invariant.right image ckpt sizes from right))
 
 pub returns-clause-put : goal.returns-clause-put
 returns-clause-put c =

@@ -10,5 +10,5 @@ invariant-loop-slot l = record {
   put : ArePutTo l.fn.first.page l.addresses l.slot l.fn.pages l.pages;
   more : IsMore l.fn.owners l.owners;
   own : AreOwn l.fn.first.ino l.fn.pages l.fn.owners → AreOwn l.fn.first.ino l.pages l.owners;
-  right : (image : Image) (point : Checkpoint) → point.extent ≡ l.fn.g → ArePagesFrom image point l.fn.first.ino l.fn.first.page l.addresses → AreRight image point l.fn.owners → AreRight image point l.owners;
+  right : (image : Image) (ckpt : Checkpoint) → ckpt.geom ≡ l.fn.g → ArePagesFrom image ckpt l.fn.first.ino l.fn.first.page l.addresses → AreRight image ckpt l.fn.owners → AreRight image ckpt l.owners;
 }

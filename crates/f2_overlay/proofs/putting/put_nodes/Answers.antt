@@ -17,7 +17,7 @@ pub put_addresses-requires : goal.put_addresses-requires
 put_addresses-requires c = let most = within_limit c.in-Some.offset c.in-Some-first_page.page c.in-Some-first_page.ensures.first in omega (arith, most, c.words_of-words.ensures.size)
 
 pub loop-offset-init : goal.loop-offset-init
-loop-offset-init c = record { put = nodes_none c.args.log.now c.args.newest c.args.pages.now; nodes = taken_none c.args.log.now c.args.newest c.args.nodes.now; more = more_same c.args.owners.now; own = λ own. own; right = λ image point sizes pages right. right }
+loop-offset-init c = record { put = nodes_none c.args.log.now c.args.newest c.args.pages.now; nodes = taken_none c.args.log.now c.args.newest c.args.nodes.now; more = more_same c.args.owners.now; own = λ own. own; right = λ image ckpt sizes pages right. right }
 
 -- the words are those of the block
 words_are : (log : List Logged) (words block : List ℕ) (place : ℕ) → block ≡ block_in log place → ((slot : ℕ) → slot < 1018 → slice_index words slot ≡ node_word block slot) → (slot : ℕ) → slot < 1018 → slice_index words slot ≡ node_word (block_in log place) slot
@@ -39,11 +39,11 @@ loop-offset-preserved-in-Continue-branch-2 c =
           (c.in_ok-put.ensures.ok ∙ ap (map.insert c.loop-offset.nodes c.in-Some.offset) (c.node_at.ensures ∙ ap node_of (logged_at c.args.log.now c.in-Some.place c.index-log-place.result small c.index-log-place.is)));
       more = more_then _ _ _ before.more one.more;
       own = λ own. one.own (before.own own);
-      right = λ image point sizes pages right.
-          one.right image point sizes
+      right = λ image ckpt sizes pages right.
+          one.right image ckpt sizes
           (node_pages c.args.log.now c.args.newest c.loop-offset.newest c.take_one.new.self c.args.pages.now c.loop-offset.pages c.in-Some.offset c.in-Some.place there c.in-Some.ensures.left before.put c.in-Some-first_page.page
-          c.words_of-words.result c.in-Some-first_page.ensures.first c.words_of-words.ensures.size words image point c.args.ino pages)
-          (before.right image point sizes pages right);
+          c.words_of-words.result c.in-Some-first_page.ensures.first c.words_of-words.ensures.size words image ckpt c.args.ino pages)
+          (before.right image ckpt sizes pages right);
     }
 
 pub loop-offset-preserved : goal.loop-offset-preserved
@@ -67,11 +67,11 @@ returns-in_err-put_addresses-clause-fault c =
     let block : c.deref.result.now ≡ block_in c.args.log.now c.in-Some.place = c.deref.ensures ∙ ap (λ (x : Logged). x.block) c.logged.view_is ∙ block_at_place c.args.log.now c.in-Some.place c.index-log-place.result small c.index-log-place.is in
     let words = words_are c.args.log.now c.words_of-words.result c.deref.result.now c.in-Some.place block c.words_of-words.ensures.words in
     fault_holds _ _ _ c.from_residual.ensures.1
-    (λ image point has sizes pages right.
-    c.in_err-put_addresses.ensures.fault image point has sizes
+    (λ image ckpt has sizes pages right.
+    c.in_err-put_addresses.ensures.fault image ckpt has sizes
     (node_pages c.args.log.now c.args.newest c.loop-offset.newest c.take_one.new.self c.args.pages.now c.loop-offset.pages c.in-Some.offset c.in-Some.place there c.in-Some.ensures.left before.put c.in-Some-first_page.page
-    c.words_of-words.result c.in-Some-first_page.ensures.first c.words_of-words.ensures.size words image point c.args.ino pages)
-    (before.right image point sizes pages right))
+    c.words_of-words.result c.in-Some-first_page.ensures.first c.words_of-words.ensures.size words image ckpt c.args.ino pages)
+    (before.right image ckpt sizes pages right))
 
 pub returns-clause-put : goal.returns-clause-put
 returns-clause-put c = nodes_all c.args.log.now c.args.newest c.loop-offset.newest c.args.pages.now c.loop-offset.pages c.in_default.ensures.none c.loop-offset.invariant.put

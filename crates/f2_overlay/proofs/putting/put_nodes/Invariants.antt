@@ -13,7 +13,7 @@ invariant-loop-offset l = record {
   nodes : AreNodesTaken l.log l.fn.newest l.newest l.fn.nodes l.nodes;
   more : IsMore l.fn.owners l.owners;
   own : AreOwn l.fn.ino l.fn.pages l.fn.owners → AreOwn l.fn.ino l.pages l.owners;
-  right : (image : Image) (point : Checkpoint) → point.extent ≡ l.fn.g → AreNodePages image point l.fn.ino l.log l.fn.newest → AreRight image point l.fn.owners → AreRight image point l.owners;
+  right : (image : Image) (ckpt : Checkpoint) → ckpt.geom ≡ l.fn.g → AreNodePages image ckpt l.fn.ino l.log l.fn.newest → AreRight image ckpt l.fn.owners → AreRight image ckpt l.owners;
 }
 
 abbrev pub decreases-loop-offset : goal.decreases-loop-offset

@@ -20,5 +20,5 @@ returns-clause-own c own =
     c.requires c.if-at-eq0.false own
 
 pub returns-clause-right : goal.returns-clause-right
-returns-clause-right c image point sizes is right =
-    right_one _ _ _ _ c.in_ok-claim.ensures.alone c.in_ok-claim.ensures.put c.args.g.now image point c.in_ok-claim.ensures.inside sizes (is c.if-at-eq0.false) right
+returns-clause-right c image ckpt sizes is right =
+    right_one _ _ _ _ c.in_ok-claim.ensures.alone c.in_ok-claim.ensures.put c.args.g.now image ckpt c.in_ok-claim.ensures.inside sizes (is c.if-at-eq0.false) right

@@ -12,12 +12,12 @@ loop-place-init g c =
     record {
       reads = reads_none _ _;
       pending = pending_none c.args.log.now c.new-2.result c.new-2.ensures;
-      rolled = λ image point ground.
-          rolled_first _ c.args.g.now image point c.args.walk.now c.args.log.now ground rolling c.new.ensures c.new-2.ensures (c.in_ok-owners_of_base.ensures.base image point ground.base.has ground.extent_is ground.base);
+      rolled = λ image ckpt ground.
+          rolled_first _ c.args.g.now image ckpt c.args.walk.now c.args.log.now ground rolling c.new.ensures c.new-2.ensures (c.in_ok-owners_of_base.ensures.base image ckpt ground.base.has ground.geom_is ground.base);
     }
 
 pub returns-in_err-owners_of_base-clause-fault : goal.returns-in_err-owners_of_base-clause-fault
-returns-in_err-owners_of_base-clause-fault g c = fault_holds _ _ _ c.from_residual.ensures.1 (λ image point ground. c.in_err-owners_of_base.ensures.fault image point ground.base.has ground.extent_is ground.base)
+returns-in_err-owners_of_base-clause-fault g c = fault_holds _ _ _ c.from_residual.ensures.1 (λ image ckpt ground. c.in_err-owners_of_base.ensures.fault image ckpt ground.base.has ground.geom_is ground.base)
 
 pub roll_block-requires-clause-device : goal.roll_block-requires-clause-device
 roll_block-requires-clause-device g c = let device = c.requires.device in omega (arith, device, c.loop-place.invariant.reads.within.same_blocks)
@@ -28,16 +28,16 @@ loop-place-preserved g c =
     record {
       reads = reads_then _ _ _ _ _ _ before.reads c.in_ok-roll_block.ensures.reads;
       pending = c.in_ok-roll_block.ensures.pending;
-      rolled = λ image point ground. c.in_ok-roll_block.ensures.rolled image point (ground_on _ _ c.args.g.now image point c.args.walk.now c.args.log.now before.reads.kept ground) (before.rolled image point ground);
+      rolled = λ image ckpt ground. c.in_ok-roll_block.ensures.rolled image ckpt (ground_on _ _ c.args.g.now image ckpt c.args.walk.now c.args.log.now before.reads.kept ground) (before.rolled image ckpt ground);
     }
 
 pub returns-in_err-roll_block-clause-fault : goal.returns-in_err-roll_block-clause-fault
 returns-in_err-roll_block-clause-fault g c =
     let before = c.loop-place.invariant in
     fault_holds _ _ _ c.from_residual-in_err-roll_block.ensures.1
-    (λ image point ground. c.in_err-roll_block.ensures.fault image point (ground_on _ _ c.args.g.now image point c.args.walk.now c.args.log.now before.reads.kept ground) (before.rolled image point ground))
+    (λ image ckpt ground. c.in_err-roll_block.ensures.fault image ckpt (ground_on _ _ c.args.g.now image ckpt c.args.walk.now c.args.log.now before.reads.kept ground) (before.rolled image ckpt ground))
 
 pub returns-clause-rolled : goal.returns-clause-rolled
-returns-clause-rolled g c image point ground =
+returns-clause-rolled g c image ckpt ground =
     let ended : c.loop-place.place ≡ length c.args.log.now = omega (arith, c.loop-place-test.false, c.loop-place.auto.place-end) in
-    subst (λ n. IsRolledTo image point c.args.walk.now n c.loop-place.rolling) ended (c.loop-place.invariant.rolled image point ground)
+    subst (λ n. IsRolledTo image ckpt c.args.walk.now n c.loop-place.rolling) ended (c.loop-place.invariant.rolled image ckpt ground)

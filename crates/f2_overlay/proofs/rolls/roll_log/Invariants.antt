@@ -9,5 +9,5 @@ abbrev pub invariant-loop-place : goal.invariant-loop-place
 invariant-loop-place g l = record {
   reads : OnlyReads (g.D.Disk.contents l.fn.disk) (g.D.Disk.meter l.fn.disk) (g.D.Disk.contents l.disk) (g.D.Disk.meter l.disk);
   pending : ArePending l.log l.place l.rolling.pending;
-  rolled : (image : Image) (point : Checkpoint) → IsGround (g.D.Disk.contents l.fn.disk) l.g image point l.walk l.log → IsRolledTo image point l.walk l.place l.rolling;
+  rolled : (image : Image) (ckpt : Checkpoint) → IsGround (g.D.Disk.contents l.fn.disk) l.g image ckpt l.walk l.log → IsRolledTo image ckpt l.walk l.place l.rolling;
 }

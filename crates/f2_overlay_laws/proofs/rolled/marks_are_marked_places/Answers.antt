@@ -3,4 +3,4 @@ use Rattle.f2_overlay_laws.proofs.LastMarks.{same_length}
 use Rattle.f2_overlay_laws.proofs.rolled.marks_are_marked_places.Goals as goal
 
 pub returns : goal.returns
-returns c = λ image point base marks are. same_length (IsMark image point base (chain image point)) (marked_places (chain image point)) marks are
+returns c = λ image ckpt base marks are. same_length (IsMark image ckpt base (chain image ckpt)) (marked_places (chain image ckpt)) marks are

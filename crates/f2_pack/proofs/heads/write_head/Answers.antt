@@ -45,7 +45,7 @@ returns-clause-reads_back c =
     (record { version = omega arith; nat = omega arith; log_start = omega arith; flags = omega arith; bitmap = bitmap_long c })
 
 pub returns-clause-valid : goal.returns-clause-valid
-returns-clause-valid c extent version nat log_start =
+returns-clause-valid c geom version nat log_start =
     let block = unsealed_head (fields_of c.args.h.now c.args.nat) in
     let long = length-unsealed (fields_of c.args.h.now c.args.nat) (bitmap_long c) in
     let right = c.put32-4.ensures.reads_back
@@ -53,4 +53,4 @@ returns-clause-valid c extent version nat log_start =
     ∙ ap seal_of (unsealed c)
     ∙ sym (seal_of-sealed block (number_bytes 4 (seal_of block)) long)
     ∙ sym (ap seal_of (returns-clause-written c)) in
-    IsPack-alone extent c.put32-4.new.b (fields_of c.args.h.now c.args.nat) right (returns-clause-reads_back c) version nat log_start
+    IsPack-alone geom c.put32-4.new.b (fields_of c.args.h.now c.args.nat) right (returns-clause-reads_back c) version nat log_start

@@ -12,7 +12,7 @@ use Rattle.f2_plain_plan.proofs.Dentries.{are_dentries}
 use Rattle.f2_plain_plan.proofs.contents.contents_of.Goals as goal
 
 pub returns-in-Regular : goal.returns-in-Regular
-returns-in-Regular c extent tree storable names there =
+returns-in-Regular c geom tree storable names there =
     let row = c.args.row.now in
     record {
       holds = file c.in-Regular.is (λ page low. refl);
@@ -20,10 +20,10 @@ returns-in-Regular c extent tree storable names there =
     }
 
 pub returns-in_ok-blocks_of-in-Directory : goal.returns-in_ok-blocks_of-in-Directory
-returns-in_ok-blocks_of-in-Directory c extent tree storable names there =
+returns-in_ok-blocks_of-in-Directory c geom tree storable names there =
     let row = c.args.row.now in
     let dentries = map_list dentry_of (dents_in c.args.directories.now row.ino) in
-    let are = are_dentries extent tree storable c.args.directories.now names row.ino in
+    let are = are_dentries geom tree storable c.args.directories.now names row.ino in
     let count = c.in_ok-blocks_of-in-Directory.ensures.count ∙ ap blocks_of_names are.names in
     let few = subst (λ n. n ≤ inode_pages) (sym count) (storable.short_directories row.ino row there c.in-Directory.is) in
     record {

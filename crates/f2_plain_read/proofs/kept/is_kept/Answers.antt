@@ -20,7 +20,7 @@ loop-ino-init c =
 
 pub loop-ino-preserved : goal.loop-ino-preserved
 loop-ino-preserved c =
-    let extent = c.args.geometry.now in
+    let geom = c.args.geometry.now in
     let places = c.args.places.now in
     let ino = c.loop-ino.ino in
     let nodes = c.loop-ino.nodes.members in
@@ -35,31 +35,31 @@ loop-ino-preserved c =
             node_zone = (ap (λ (n : Numbers). n.first) nodes_are ∙ before.node_zone.0, ap (λ (n : Numbers). n.count) nodes_are ∙ before.node_zone.1);
             page_zone = (ap (λ (n : Numbers). n.first) w.pages-is ∙ took.zone.0, ap (λ (n : Numbers). n.count) w.pages-is ∙ took.zone.1);
             kept =
-                subst (λ (t : Taken). AreKeptBelow extent places (ino + 1) t c.match-get.pages.members) (sym (ap (λ (n : Numbers). n.members) nodes_are))
-                (subst (λ (t : Taken). AreKeptBelow extent places (ino + 1) (set.insert nodes w.in-Some.place.now.at) t) (sym (ap (λ (n : Numbers). n.members) w.pages-is))
-                (kept_next extent places ino nodes pages before.kept w.in-Some.place.now (sym w.in-Some.ensures) took.whole free w.take_pages.new.pages.members (took.free.0 refl) took.taken));
+                subst (λ (t : Taken). AreKeptBelow geom places (ino + 1) t c.match-get.pages.members) (sym (ap (λ (n : Numbers). n.members) nodes_are))
+                (subst (λ (t : Taken). AreKeptBelow geom places (ino + 1) (set.insert nodes w.in-Some.place.now.at) t) (sym (ap (λ (n : Numbers). n.members) w.pages-is))
+                (kept_next geom places ino nodes pages before.kept w.in-Some.place.now (sym w.in-Some.ensures) took.whole free w.take_pages.new.pages.members (took.free.0 refl) took.taken));
           }
       | in_default w ↦
           record {
             node_zone = (ap (λ (n : Numbers). n.first) w.nodes-is ∙ before.node_zone.0, ap (λ (n : Numbers). n.count) w.nodes-is ∙ before.node_zone.1);
             page_zone = (ap (λ (n : Numbers). n.first) w.pages-is ∙ before.page_zone.0, ap (λ (n : Numbers). n.count) w.pages-is ∙ before.page_zone.1);
             kept =
-                subst (λ (t : Taken). AreKeptBelow extent places (ino + 1) t c.match-get.pages.members) (sym (ap (λ (n : Numbers). n.members) w.nodes-is))
-                (subst (λ (t : Taken). AreKeptBelow extent places (ino + 1) nodes t) (sym (ap (λ (n : Numbers). n.members) w.pages-is))
-                (kept_none extent places ino nodes pages before.kept (sym w.in_default.ensures)));
+                subst (λ (t : Taken). AreKeptBelow geom places (ino + 1) t c.match-get.pages.members) (sym (ap (λ (n : Numbers). n.members) w.nodes-is))
+                (subst (λ (t : Taken). AreKeptBelow geom places (ino + 1) nodes t) (sym (ap (λ (n : Numbers). n.members) w.pages-is))
+                (kept_none geom places ino nodes pages before.kept (sym w.in_default.ensures)));
           }
     ]
 
 pub returns : goal.returns
 returns c =
-    let extent = c.args.geometry.now in
+    let geom = c.args.geometry.now in
     let places = c.args.places.now in
     let all : c.loop-ino.ino ≡ c.args.limit = omega arith in
-    let are = subst (λ (n : ℕ). AreKeptBelow extent places n c.loop-ino.nodes.members c.loop-ino.pages.members) all c.loop-ino.invariant.kept in
-    let few = few_enough extent places c.args.limit c.loop-ino.nodes.members c.loop-ino.pages.members c.requires are in
+    let are = subst (λ (n : ℕ). AreKeptBelow geom places n c.loop-ino.nodes.members c.loop-ino.pages.members) all c.loop-ino.invariant.kept in
+    let few = few_enough geom places c.args.limit c.loop-ino.nodes.members c.loop-ino.pages.members c.requires are in
     elim c.if-len-cn.branch [
       | then-len-cn w ↦ (
-        λ t. kept_all extent places c.args.limit c.loop-ino.nodes.members c.loop-ino.pages.members c.requires are
+        λ t. kept_all geom places c.args.limit c.loop-ino.nodes.members c.loop-ino.pages.members c.requires are
             (omega (arith, c.len.ensures.len, c.cn-2.ensures.value, w.if-len-cn.true))
             (omega (arith, w.len-then-len-cn.ensures.len, w.cd-then-len-cn.ensures.value, leb-true w.len-then-len-cn.result w.cd-then-len-cn.result (sym w.result-is ∙ t))),
         λ kept. w.result-is ∙ le-leb w.len-then-len-cn.result w.cd-then-len-cn.result (omega (arith, w.len-then-len-cn.ensures.len, w.cd-then-len-cn.ensures.value, (few kept).1)),

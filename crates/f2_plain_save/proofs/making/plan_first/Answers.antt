@@ -1,5 +1,5 @@
 use Rattle.std.proofs.Common.{◌≡◌, ◌+◌, ◌≤◌, length, sym, subst}
-use Rattle.f2_format.specs.Geometry.{Extent}
+use Rattle.f2_format.specs.Geometry.{ImageGeometry}
 use Rattle.f2_model.specs.Tree.{Rows}
 use Rattle.f2_laid.specs.Planned.{IsPlanOf}
 use Rattle.f2_plain_plan.specs.declared.plans.Plan.{Plan}
@@ -28,7 +28,7 @@ pub returns-clause-most : goal.returns-clause-most
 returns-clause-most c =
     if_ok-weaker c.plan-2.result
     (λ (plan : Plan). IsPlanOf c.in_ok-tree.tree c.new.result plan.stored plan.blocks.items plan.tail × (plan.stored.geometry ≡ c.args.geometry)) _
-    (λ plan is. subst (λ (e : Extent). length plan.blocks.items ≤ e.nat + 3) is.1
+    (λ plan is. subst (λ (e : ImageGeometry). length plan.blocks.items ≤ e.nat + 3) is.1
     (first_few plan.stored plan.blocks.items plan.tail
     (subst (λ (places : PlaceMap). IsPlanOf root_alone places plan.stored plan.blocks.items plan.tail) c.new.ensures
     (subst (λ (tree : Rows). IsPlanOf tree c.new.result plan.stored plan.blocks.items plan.tail) c.in_ok-tree.ensures is.0))))

@@ -7,6 +7,6 @@ use Rattle.f2_plain_plan.proofs.SmallTrees.{alone_storable}
 use Rattle.f2_program_tests.proofs.plain_plan.alone.Goals as goal
 
 pub returns : goal.returns
-returns c extent geometry =
+returns c geom geometry =
     let is = c.in_ok-put.ensures.ok ∙ ap (λ (row : Row). map.insert c.new-tree.result row.ino row) c.root.ensures ∙ ap (λ (tree : Rows). map.insert tree ROOT root_row) c.new-tree.ensures in
-    subst (λ (tree : Rows). IsStorable extent tree) (sym is) (alone_storable extent geometry)
+    subst (λ (tree : Rows). IsStorable geom tree) (sym is) (alone_storable geom geometry)

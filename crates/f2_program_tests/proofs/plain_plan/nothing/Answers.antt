@@ -4,4 +4,4 @@ use Rattle.f2_plain_plan.proofs.SmallTrees.{nothing_kept}
 use Rattle.f2_program_tests.proofs.plain_plan.nothing.Goals as goal
 
 pub returns : goal.returns
-returns c extent = subst (λ (places : PlaceMap). IsKept extent places) (sym c.new.ensures) (nothing_kept extent)
+returns c geom = subst (λ (places : PlaceMap). IsKept geom places) (sym c.new.ensures) (nothing_kept geom)

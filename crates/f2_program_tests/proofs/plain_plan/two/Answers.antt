@@ -8,7 +8,7 @@ use Rattle.f2_plain_plan.proofs.SmallTrees.{file_row, one_page, two_storable}
 use Rattle.f2_program_tests.proofs.plain_plan.two.Goals as goal
 
 pub returns : goal.returns
-returns c extent geometry =
+returns c geom geometry =
     let bytes = c.args.block.now in
     let put = λ (tree : Rows) (row : Row). map.insert tree row.ino row in
     let alone = c.in_ok-put-2.ensures.ok ∙ ap (put c.new-tree.result) c.root.ensures ∙ ap (λ (tree : Rows). map.insert tree ROOT root_row) c.new-tree.ensures in
@@ -17,4 +17,4 @@ returns c extent geometry =
     let a = c.in_ok-file-2.ensures ∙ ap (file_row 5 97 0) c.new.ensures in
     let first = c.in_ok-put-3.ensures.ok ∙ ap (put c.put-2.new.self) b ∙ ap (λ (tree : Rows). put tree (file_row 4 98 4096 (one_page bytes))) alone in
     let both = c.in_ok-put-4.ensures.ok ∙ ap (put c.put-3.new.self) a ∙ ap (λ (tree : Rows). put tree (file_row 5 97 0 map.empty)) first in
-    subst (λ (tree : Rows). IsStorable extent tree) (sym both) (two_storable extent geometry bytes (search rules))
+    subst (λ (tree : Rows). IsStorable geom tree) (sym both) (two_storable geom geometry bytes (search rules))

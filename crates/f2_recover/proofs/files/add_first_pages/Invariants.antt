@@ -10,7 +10,7 @@ use Rattle.f2_recover.proofs.files.add_first_pages.Given as goal
 
 abbrev pub invariant-loop-page : goal.invariant-loop-page
 invariant-loop-page l = record {
-  extent : l.zones.extent ≡ l.fn.zones.extent;
-  seen : (image : Image) (point : Checkpoint) (inos : set.FinSet nat_cmp) (ino offset : ℕ) (inode : List ℕ) → point.extent ≡ l.fn.zones.extent → IsFile image point ino inode
-      → l.fn.addresses ≡ (inode_of inode).addresses → IsSeen image point inos ino offset 0 l.fn.zones l.fn.file → IsSeen image point inos ino offset l.page l.zones l.file;
+  geom : l.zones.geom ≡ l.fn.zones.geom;
+  seen : (image : Image) (ckpt : Checkpoint) (inos : set.FinSet nat_cmp) (ino offset : ℕ) (inode : List ℕ) → ckpt.geom ≡ l.fn.zones.geom → IsFile image ckpt ino inode
+      → l.fn.addresses ≡ (inode_of inode).addresses → IsSeen image ckpt inos ino offset 0 l.fn.zones l.fn.file → IsSeen image ckpt inos ino offset l.page l.zones l.file;
 }

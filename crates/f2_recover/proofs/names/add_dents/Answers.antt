@@ -20,5 +20,5 @@ pub returns-in_err-check_dent-clause-fault : goal.returns-in_err-check_dent-clau
 returns-in_err-check_dent-clause-fault c =
     let split = one_taken c.loop-dent.yielded c.in-Some.dent c.next.new.self.rest.items _ _ c.in-Some.ensures.steps.0 c.loop-dent.invariant.all in
     fault_holds _ _ _ c.from_residual.ensures.1
-    (λ image point directory has reached are.
-    c.in_err-check_dent.ensures.fault image point directory has reached (next_of (λ dent. HasDentry image point directory (dentry_of dent)) c.loop-dent.yielded c.in-Some.dent c.next.new.self.rest.items c.args.found.items split are))
+    (λ image ckpt directory has reached are.
+    c.in_err-check_dent.ensures.fault image ckpt directory has reached (next_of (λ dent. HasDentry image ckpt directory (dentry_of dent)) c.loop-dent.yielded c.in-Some.dent c.next.new.self.rest.items c.args.found.items split are))

@@ -8,16 +8,16 @@ use Rattle.f2_recover.proofs.names.read_names.Goals as goal
 pub returns-in_err-found-clause-fault : goal.returns-in_err-found-clause-fault
 returns-in_err-found-clause-fault g c =
     fault_holds _ _ _ c.from_residual.ensures.1
-    (λ image point directory tells has sizes reached are.
-    c.in_err-found.ensures.fault image point directory _ (tells_on _ _ image c.loop-block.invariant.reads.kept tells) has sizes reached
-    (listed_block image point directory c.args.blocks.now c.loop-block.block-index are c.loop-block-test.true))
+    (λ image ckpt directory tells has sizes reached are.
+    c.in_err-found.ensures.fault image ckpt directory _ (tells_on _ _ image c.loop-block.invariant.reads.kept tells) has sizes reached
+    (listed_block image ckpt directory c.args.blocks.now c.loop-block.block-index are c.loop-block-test.true))
 
 pub returns-in_err-add_dents-clause-fault : goal.returns-in_err-add_dents-clause-fault
 returns-in_err-add_dents-clause-fault g c =
     fault_holds _ _ _ c.from_residual-in_err-add_dents.ensures.1
-    (λ image point directory tells has sizes reached are.
-    c.in_err-add_dents.ensures.fault image point directory has reached
-    (found_are image point directory _ _ c.in_ok-found.found.items (listed_block image point directory c.args.blocks.now c.loop-block.block-index are c.loop-block-test.true)
+    (λ image ckpt directory tells has sizes reached are.
+    c.in_err-add_dents.ensures.fault image ckpt directory has reached
+    (found_are image ckpt directory _ _ c.in_ok-found.found.items (listed_block image ckpt directory c.args.blocks.now c.loop-block.block-index are c.loop-block-test.true)
     (c.in_ok-found.ensures.dents image (tells_on _ _ image c.loop-block.invariant.reads.kept tells))))
 
 pub loop-block-preserved : goal.loop-block-preserved
@@ -32,6 +32,6 @@ loop-block-preserved g c =
     }
 
 pub returns-clause-dents : goal.returns-clause-dents
-returns-clause-dents g c image point directory tells are =
+returns-clause-dents g c image ckpt directory tells are =
     dents_of_blocks image c.args.blocks.now c.loop-block.dents.items
-    (dentries_all image c.args.blocks.now c.loop-block.block-index c.loop-block.dents.items (omega (arith, c.loop-block-test.false)) (c.loop-block.invariant.dents image tells)) point directory are
+    (dentries_all image c.args.blocks.now c.loop-block.block-index c.loop-block.dents.items (omega (arith, c.loop-block-test.false)) (c.loop-block.invariant.dents image tells)) ckpt directory are

@@ -12,5 +12,5 @@ types_same Directory Regular e = absurd (omega (arith, e))
 types_same Directory Directory e = refl
 
 pub returns-then-not-is_same-clause-fault : goal.returns-then-not-is_same-clause-fault
-returns-then-not-is_same-clause-fault c image point inode has is named =
+returns-then-not-is_same-clause-fault c image ckpt inode has is named =
     (has, faults.other_kind named.directory named.dentry c.args.kind inode named.reached named.has named.is is (λ e. c.if-not-is_same.ensures.other refl (types_same c.args.kind c.args.told (e ∙ named.typed))))

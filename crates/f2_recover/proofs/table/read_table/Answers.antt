@@ -11,10 +11,10 @@ loop-block-preserved g c =
     record {
       reads = reads_then _ _ _ _ _ _ before.reads c.in_ok-read_block.ensures.reads;
       size = omega (arith, c.in_ok-add_entries.ensures.size, before.size);
-      table = λ image point tells is. table_more image point c.args.g.now c.args.bitmap.now c.args.journal.now is c.loop-block.block _ _ _ (before.table image point tells is)
+      table = λ image ckpt tells is. table_more image ckpt c.args.g.now c.args.bitmap.now c.args.journal.now is c.loop-block.block _ _ _ (before.table image ckpt tells is)
           (c.in_ok-read_block.ensures.content image (tells_on _ _ image before.reads.kept tells) ∙ ap (block_at image) (c.nat_at.ensures.value ∙ ap (nat_address c.args.g.now c.loop-block.block) c.get.ensures)) c.in_ok-add_entries.ensures;
     }
 
 pub returns-clause-table : goal.returns-clause-table
-returns-clause-table g c image point tells is =
-    table_read image point c.args.g.now c.args.bitmap.now c.args.journal.now is _ c.loop-block.block _ tells (c.loop-block.invariant.table image point tells is) (omega (arith, c.nat-block-end.ensures.value))
+returns-clause-table g c image ckpt tells is =
+    table_read image ckpt c.args.g.now c.args.bitmap.now c.args.journal.now is _ c.loop-block.block _ tells (c.loop-block.invariant.table image ckpt tells is) (omega (arith, c.nat-block-end.ensures.value))

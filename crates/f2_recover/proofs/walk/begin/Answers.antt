@@ -15,26 +15,26 @@ pub returns-in_err-file-clause-fault : goal.returns-in_err-file-clause-fault
 returns-in_err-file-clause-fault g c =
     let zones = c.in_ok-new.ensures in
     fault_holds _ _ _ c.from_residual-in_err-file.ensures.1
-    (λ image point read.
-    c.in_err-file.ensures.fault image point set.empty (read_on _ _ _ _ _ image point refl (ap (λ (z : Taken). z.extent) zones) read) bases.root
-    (first_file image point 3 _ (ap (λ (z : Taken). z.nodes) zones) (ap (λ (z : Taken). z.pages) zones) (ap (λ (z : Taken). z.nids) zones)))
+    (λ image ckpt read.
+    c.in_err-file.ensures.fault image ckpt set.empty (read_on _ _ _ _ _ image ckpt refl (ap (λ (z : Taken). z.geom) zones) read) bases.root
+    (first_file image ckpt 3 _ (ap (λ (z : Taken). z.nodes) zones) (ap (λ (z : Taken). z.pages) zones) (ap (λ (z : Taken). z.nids) zones)))
 
 pub returns-in_err-check_root-clause-fault : goal.returns-in_err-check_root-clause-fault
 returns-in_err-check_root-clause-fault g c =
     let zones = c.in_ok-new.ensures in
     fault_holds _ _ _ c.from_residual-in_err-check_root.ensures.1
-    (λ image point read.
-    let file = c.in_ok-file.ensures.file image point set.empty (read_on _ _ _ _ _ image point refl (ap (λ (z : Taken). z.extent) zones) read) bases.root
-    (first_file image point 3 _ (ap (λ (z : Taken). z.nodes) zones) (ap (λ (z : Taken). z.pages) zones) (ap (λ (z : Taken). z.nids) zones)) in
-    c.in_err-check_root.ensures.fault image point file.inode read.has file.is)
+    (λ image ckpt read.
+    let file = c.in_ok-file.ensures.file image ckpt set.empty (read_on _ _ _ _ _ image ckpt refl (ap (λ (z : Taken). z.geom) zones) read) bases.root
+    (first_file image ckpt 3 _ (ap (λ (z : Taken). z.nodes) zones) (ap (λ (z : Taken). z.pages) zones) (ap (λ (z : Taken). z.nids) zones)) in
+    c.in_err-check_root.ensures.fault image ckpt file.inode read.has file.is)
 
 pub returns-clause-walked : goal.returns-clause-walked
-returns-clause-walked g c image point read =
+returns-clause-walked g c image ckpt read =
     let zones = c.in_ok-new.ensures in
     let row : BaseRow = record { parent = 3; name = c.new-5.result; depth = 0; file = c.in_ok-file.file } in
-    let file = c.in_ok-file.ensures.file image point set.empty (read_on _ _ _ _ _ image point refl (ap (λ (z : Taken). z.extent) zones) read) bases.root
-    (first_file image point 3 _ (ap (λ (z : Taken). z.nodes) zones) (ap (λ (z : Taken). z.pages) zones) (ap (λ (z : Taken). z.nids) zones)) in
-    walked_first image point _ row file c.in_ok-check_root.ensures.directory refl c.new-5.ensures refl
+    let file = c.in_ok-file.ensures.file image ckpt set.empty (read_on _ _ _ _ _ image ckpt refl (ap (λ (z : Taken). z.geom) zones) read) bases.root
+    (first_file image ckpt 3 _ (ap (λ (z : Taken). z.nodes) zones) (ap (λ (z : Taken). z.pages) zones) (ap (λ (z : Taken). z.nids) zones)) in
+    walked_first image ckpt _ row file c.in_ok-check_root.ensures.directory refl c.new-5.ensures refl
     (c.in_ok-put.ensures.ok ∙ ap (λ (m : BaseRows). map.insert m 3 row) c.new-2.ensures) c.new-3.ensures
 
 pub returns-clause-queue : goal.returns-clause-queue
@@ -42,4 +42,4 @@ returns-clause-queue g c =
     let row : BaseRow = record { parent = 3; name = c.new-5.result; depth = 0; file = c.in_ok-file.file } in
     queue_first _ row _ _ (c.in_ok-put.ensures.ok ∙ ap (λ (m : BaseRows). map.insert m 3 row) c.new-2.ensures) refl
     (c.in_ok-push.ensures.items ∙ ap (λ (xs : List ℕ). xs ++ 3 ∷ []) c.new-4.ensures.items)
-    (subst (λ (z : Taken). 3 < nid_limit z.extent) c.in_ok-new.ensures c.in_ok-file.ensures.within)
+    (subst (λ (z : Taken). 3 < nid_limit z.geom) c.in_ok-new.ensures c.in_ok-file.ensures.within)

@@ -15,10 +15,10 @@ abbrev pub invariant-loop-dent : goal.invariant-loop-dent
 invariant-loop-dent g l = record {
   all : l.yielded ++ l.dent-iterator.rest.items ≡ l.fn.dents.items;
   reads : OnlyReads (g.D.Disk.contents l.fn.disk) (g.D.Disk.meter l.fn.disk) (g.D.Disk.contents l.disk) (g.D.Disk.meter l.disk);
-  extent : l.walk.zones.extent ≡ l.fn.g;
+  geom : l.walk.zones.geom ≡ l.fn.g;
   queue : IsQueue l.fn.g l.walk.rows l.walk.order.items;
   longer : IsLonger l.fn.walk l.walk;
-  walked : (image : Image) (point : Checkpoint) (done : Numbers) (places : List (ℕ × ℕ)) → IsRead (g.D.Disk.contents l.fn.disk) l.fn.g l.fn.table image point → set.contains done l.fn.directory ≡ false
-      → AreDentsAt image point l.fn.directory places l.fn.dents.items → IsBelow image point (l.fn.depth - 1) l.fn.directory → IsWalkedTo image point done l.fn.directory places 0 l.fn.walk
-      → IsWalkedTo image point done l.fn.directory places (length l.yielded) l.walk × AreFirstNames l.fn.dents.items (length l.yielded) l.names;
+  walked : (image : Image) (ckpt : Checkpoint) (done : Numbers) (places : List (ℕ × ℕ)) → IsRead (g.D.Disk.contents l.fn.disk) l.fn.g l.fn.table image ckpt → set.contains done l.fn.directory ≡ false
+      → AreDentsAt image ckpt l.fn.directory places l.fn.dents.items → IsBelow image ckpt (l.fn.depth - 1) l.fn.directory → IsWalkedTo image ckpt done l.fn.directory places 0 l.fn.walk
+      → IsWalkedTo image ckpt done l.fn.directory places (length l.yielded) l.walk × AreFirstNames l.fn.dents.items (length l.yielded) l.names;
 }

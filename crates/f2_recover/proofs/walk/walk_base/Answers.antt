@@ -9,9 +9,9 @@ use Rattle.f2_recover.proofs.walk.walk_base.Goals as goal
 pub loop-next-init : goal.loop-next-init
 loop-next-init g c = record {
   reads = c.begin.ensures.reads;
-  extent = c.in_ok-walk.ensures.extent;
+  geom = c.in_ok-walk.ensures.geom;
   queue = c.in_ok-walk.ensures.queue;
-  walked = λ image point read. before_none image point c.in_ok-walk.walk (c.in_ok-walk.ensures.walked image point read);
+  walked = λ image ckpt read. before_none image ckpt c.in_ok-walk.walk (c.in_ok-walk.ensures.walked image ckpt read);
 }
 
 pub loop-next-smaller : goal.loop-next-smaller
@@ -28,10 +28,10 @@ returns-in_err-walk_row-clause-fault g c =
     let small : c.loop-next.next < length order.items = omega (arith, c.loop-next-test.true, c.len.ensures, order.ok.0) in
     let at = sym (get_or_read order.items _ _ small c.index-ino.ensures 0) in
     fault_holds _ _ _ c.from_residual-in_err-walk_row.ensures.1
-    (λ image point read.
-    let walked = before.walked image point read in
-    c.in_err-walk_row.ensures.fault image point walked.done (read_on _ _ _ _ _ image point before.reads.kept refl read)
-    (next_fresh image point c.args.g.now c.loop-next.walk c.loop-next.next _ before.queue walked small at) walked.to)
+    (λ image ckpt read.
+    let walked = before.walked image ckpt read in
+    c.in_err-walk_row.ensures.fault image ckpt walked.done (read_on _ _ _ _ _ image ckpt before.reads.kept refl read)
+    (next_fresh image ckpt c.args.g.now c.loop-next.walk c.loop-next.next _ before.queue walked small at) walked.to)
 
 pub loop-next-preserved : goal.loop-next-preserved
 loop-next-preserved g c =
@@ -42,15 +42,15 @@ loop-next-preserved g c =
     let row = c.in_ok-walk_row.ensures in
     record {
       reads = reads_then _ _ _ _ _ _ before.reads row.reads;
-      extent = row.extent;
+      geom = row.geom;
       queue = row.queue;
-      walked = λ image point read. before_more image point c.args.g.now c.loop-next.walk c.loop-next.next _ before.queue (before.walked image point read) small at c.walk_row.new.walk row.longer
-          (λ done. row.walked image point done (read_on _ _ _ _ _ image point before.reads.kept refl read)) row.file;
+      walked = λ image ckpt read. before_more image ckpt c.args.g.now c.loop-next.walk c.loop-next.next _ before.queue (before.walked image ckpt read) small at c.walk_row.new.walk row.longer
+          (λ done. row.walked image ckpt done (read_on _ _ _ _ _ image ckpt before.reads.kept refl read)) row.file;
     }
 
 pub returns-clause-walked : goal.returns-clause-walked
-returns-clause-walked g c image point read =
+returns-clause-walked g c image ckpt read =
     let before = c.loop-next.invariant in
     let order = c.loop-next.walk.order in
     let past : length order.items ≤ c.loop-next.next = omega (arith, c.loop-next-test.false, c.len.ensures, order.ok.0) in
-    walked_whole image point c.args.g.now c.loop-next.walk c.loop-next.next before.queue (before.walked image point read) past
+    walked_whole image ckpt c.args.g.now c.loop-next.walk c.loop-next.next before.queue (before.walked image ckpt read) past

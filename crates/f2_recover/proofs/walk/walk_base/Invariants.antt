@@ -12,9 +12,9 @@ use Rattle.f2_recover.proofs.walk.walk_base.Given as goal
 abbrev pub invariant-loop-next : goal.invariant-loop-next
 invariant-loop-next g l = record {
   reads : OnlyReads (g.D.Disk.contents l.fn.disk) (g.D.Disk.meter l.fn.disk) (g.D.Disk.contents l.disk) (g.D.Disk.meter l.disk);
-  extent : l.walk.zones.extent ≡ l.fn.g;
+  geom : l.walk.zones.geom ≡ l.fn.g;
   queue : IsQueue l.fn.g l.walk.rows l.walk.order.items;
-  walked : (image : Image) (point : Checkpoint) → IsRead (g.D.Disk.contents l.fn.disk) l.fn.g l.fn.table image point → IsWalkedBefore image point l.walk l.next;
+  walked : (image : Image) (ckpt : Checkpoint) → IsRead (g.D.Disk.contents l.fn.disk) l.fn.g l.fn.table image ckpt → IsWalkedBefore image ckpt l.walk l.next;
 }
 
 abbrev pub decreases-loop-next : goal.decreases-loop-next

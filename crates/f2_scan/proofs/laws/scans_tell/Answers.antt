@@ -5,20 +5,20 @@ use Rattle.f2_scan.proofs.laws.scans_tell.Goals as goal
 
 pub returns-clause-chain : goal.returns-clause-chain
 unfolding chain
-returns-clause-chain c = λ image point. refl
+returns-clause-chain c = λ image ckpt. refl
 
 pub returns-clause-sound : goal.returns-clause-sound
 unfolding chain
-returns-clause-sound c = λ image point sound. none_stands image point sound
+returns-clause-sound c = λ image ckpt sound. none_stands image ckpt sound
 
 pub returns-clause-chain_long : goal.returns-clause-chain_long
 unfolding chain
-returns-clause-chain_long c = λ image point at fault. long_stands image point at fault
+returns-clause-chain_long c = λ image ckpt at fault. long_stands image ckpt at fault
 
 pub returns-clause-bad_inode : goal.returns-clause-bad_inode
 unfolding chain
-returns-clause-bad_inode c = λ image point at why fault. inode_stands image point at why fault
+returns-clause-bad_inode c = λ image ckpt at why fault. inode_stands image ckpt at why fault
 
 pub returns-clause-out_of_zone : goal.returns-clause-out_of_zone
 unfolding chain
-returns-clause-out_of_zone c = λ image point at fault. next_stands image point at fault
+returns-clause-out_of_zone c = λ image ckpt at fault. next_stands image ckpt at fault

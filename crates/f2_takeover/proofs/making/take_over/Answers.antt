@@ -9,6 +9,6 @@ if_ok (Err e) P Q f h = tt
 
 pub returns : goal.returns
 returns c = record {
-  rows = if_ok c.make_rows.result _ _ (λ rows made image point read right are. all_rows image point c.args.walk.now read c.args.rolls.now right are c.in_ok-changed.changed.members rows made c.in_ok-changed.ensures) c.make_rows.ensures;
-  rooted = if_ok c.make_rows.result _ _ (λ rows made image point read right marks are. rooted image point c.args.walk.now read c.args.rolls.now marks are rows (all_rows image point c.args.walk.now read c.args.rolls.now right are c.in_ok-changed.changed.members rows made c.in_ok-changed.ensures)) c.make_rows.ensures;
+  rows = if_ok c.make_rows.result _ _ (λ rows made image ckpt read right are. all_rows image ckpt c.args.walk.now read c.args.rolls.now right are c.in_ok-changed.changed.members rows made c.in_ok-changed.ensures) c.make_rows.ensures;
+  rooted = if_ok c.make_rows.result _ _ (λ rows made image ckpt read right marks are. rooted image ckpt c.args.walk.now read c.args.rolls.now marks are rows (all_rows image ckpt c.args.walk.now read c.args.rolls.now right are c.in_ok-changed.changed.members rows made c.in_ok-changed.ensures)) c.make_rows.ensures;
 }

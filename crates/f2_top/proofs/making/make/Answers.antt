@@ -1,6 +1,6 @@
 use Rattle.std.proofs.Common.{◌≡◌, refl, sym, ap, ◌∙◌, subst, arith, Err}
 use Rattle.f2_disk.specs.Contents.{WhereTold}
-use Rattle.f2_format.specs.Geometry.{Extent, node_third, data_third}
+use Rattle.f2_format.specs.Geometry.{ImageGeometry, node_third, data_third}
 use Rattle.f2_mount.specs.Making.{HasNewImage}
 use Rattle.f2_play.specs.Lines.{ended}
 use Rattle.f2_script.specs.Steps.{made_spelling}
@@ -34,8 +34,8 @@ returns-in-Ok-mkfs-clause-made g c =
     let same : c.in-Ok.geometry ≡ asked = same_sizes asked c.in-Ok.geometry c.in-Ok.ensures.exact in
     let flush = on_ok c.flush.result (sym c.is_err.ensures.value ∙ c.if-is_err.false) c.flush.ensures.flushed in (
       record { own = own_sizes asked c.in-Ok.geometry c.in-Ok.ensures.exact; room = omega (arith, c.if-blocks-asked.false, c.blocks-blocks.ensures.count, c.flush.ensures.within.same_blocks) },
-      told_new asked _ _ _ flush (subst (λ (e : Extent). WhereTold (g.D.Disk.contents c.flush.new.self) (g.D.Disk.contents c.mkfs.new.disk) (HasNewImage e)) same c.in-Ok-mkfs.ensures.made),
-      subst (λ (e : Extent). c.in-Ok-mkfs_line.text.items ≡ ended (made_spelling (node_third e) (data_third e))) same c.in-Ok-mkfs_line.ensures,
+      told_new asked _ _ _ flush (subst (λ (e : ImageGeometry). WhereTold (g.D.Disk.contents c.flush.new.self) (g.D.Disk.contents c.mkfs.new.disk) (HasNewImage e)) same c.in-Ok-mkfs.ensures.made),
+      subst (λ (e : ImageGeometry). c.in-Ok-mkfs_line.text.items ≡ ended (made_spelling (node_third e) (data_third e))) same c.in-Ok-mkfs_line.ensures,
     )
 
 pub returns-clause-refused : goal.returns-clause-refused

@@ -31,7 +31,7 @@ pub returns-clause-done : goal.returns-clause-done
 returns-clause-done c =
     let old = c.self.view_is ∙ c.write_held.ensures.held in
     same_table
-    (ap (λ (x : Table). x.extent) old)
+    (ap (λ (x : Table). x.geom) old)
     c.bitmap-bitmap.ensures.value
     (c.new-self-inside.ensures ∙ c.journal-journal.ensures.value)
     (ap (λ (d : DirtyTable). d.entries) c.clear.ensures)
@@ -55,7 +55,7 @@ returns-clause-still_kept c before after wrote kept =
     let t = c.args.self.now in
     let old = c.self.view_is ∙ c.write_held.ensures.held in
     let is = c.self.invariant in
-    let nat = ap (λ (x : Table). x.extent.nat) old in
+    let nat = ap (λ (x : Table). x.geom.nat) old in
     let clean = λ (nid : ℕ). ap (λ (x : Table). is_some (map.get x.clean nid)) old in
     subst (λ (x : Table). IsKept x after) (sym (returns-clause-done c))
     (kept_after t c.requires c.write_held.ensures.told before after wrote kept

@@ -26,7 +26,7 @@ invariant_of-self-2 g c =
       within = is.within;
       bounded = c.in_ok-add.ensures.bounded;
       clean_within = below_more _ c.self.inside.clean.entries c.add.new.self.entries c.args.nid c.in_ok-e.e
-          (omega (arith, c.requires.nid, ap (λ (t : Table). t.extent.nat) c.self.view_is)) more is.clean_within;
+          (omega (arith, c.requires.nid, ap (λ (t : Table). t.geom.nat) c.self.view_is)) more is.clean_within;
       apart = apart_more c.self.inside.dirty.entries c.self.inside.clean.entries c.add.new.self.entries c.self.inside.journal c.args.nid c.in_ok-e.e none more is.apart;
     }
 
@@ -40,5 +40,5 @@ returns-clause-still_kept g c =
     let more = subst (λ (m : Entries). MayAdd c.args.nid c.in_ok-e.e m c.add.new.self.entries) (ap (λ (t : CleanTable). t.entries) c.get.ensures.same ∙ ap (λ (t : Table). t.clean) c.self.view_is) c.in_ok-add.ensures.others in
     told_same _ (g.D.Disk.contents c.args.disk.now) _ c.in_ok-e.ensures.reads.kept
     (kept_more c.args.self.now _ (g.D.Disk.contents c.args.disk.now) c.args.nid c.in_ok-e.e
-    (ap (λ (t : Table). t.extent) c.self.view_is) (ap (λ (t : Table). t.bitmap) c.self.view_is) (ap (λ (t : Table). t.held) c.self.view_is)
+    (ap (λ (t : Table). t.geom) c.self.view_is) (ap (λ (t : Table). t.bitmap) c.self.view_is) (ap (λ (t : Table). t.held) c.self.view_is)
     c.requires.kept read more)

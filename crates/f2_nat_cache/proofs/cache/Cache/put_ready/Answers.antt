@@ -19,7 +19,7 @@ invariant_of-self c =
       blocks = is.blocks;
       within = λ nid there.
           within_insert c.self.inside.dirty.entries c.args.nid c.args.e (455 * c.self.inside.geometry.nat)
-          (omega (arith, c.requires.nid, ap (λ (t : Table). t.extent.nat) c.self.view_is)) is.within nid (sym (ap (λ (m : Entries). is_some (map.get m nid)) entries) ∙ there);
+          (omega (arith, c.requires.nid, ap (λ (t : Table). t.geom.nat) c.self.view_is)) is.within nid (sym (ap (λ (m : Entries). is_some (map.get m nid)) entries) ∙ there);
       bounded = c.forget.ensures.bounded;
       clean_within = λ nid there. is.clean_within nid (there_before c.self.inside.clean.entries c.args.nid nid (sym (ap (λ (m : Entries). is_some (map.get m nid)) left) ∙ there));
       apart = λ nid there.
@@ -30,5 +30,5 @@ invariant_of-self c =
 pub returns-clause-still_kept : goal.returns-clause-still_kept
 returns-clause-still_kept c told =
     kept_fewer c.args.self.now _ told
-    (ap (λ (t : Table). t.extent) c.self.view_is) (ap (λ (t : Table). t.bitmap) c.self.view_is) (ap (λ (t : Table). t.held) c.self.view_is)
+    (ap (λ (t : Table). t.geom) c.self.view_is) (ap (λ (t : Table). t.bitmap) c.self.view_is) (ap (λ (t : Table). t.held) c.self.view_is)
     (fewer_without c.args.self.now.clean c.forget.new.self.entries c.args.nid (ap (λ (t : CleanTable). t.entries) c.forget.ensures.left ∙ ap (λ (t : Table). map.remove t.clean c.args.nid) c.self.view_is))

@@ -11,5 +11,5 @@ pub returns-clause-still_kept : goal.returns-clause-still_kept
 returns-clause-still_kept c =
     on_ok c.room.result _ (λ told.
     kept_fewer c.args.self.now _ told
-    (ap (λ (t : Table). t.extent) c.self.view_is) (ap (λ (t : Table). t.bitmap) c.self.view_is) (ap (λ (t : Table). t.held) c.self.view_is)
+    (ap (λ (t : Table). t.geom) c.self.view_is) (ap (λ (t : Table). t.bitmap) c.self.view_is) (ap (λ (t : Table). t.held) c.self.view_is)
     (same_fewer c.args.self.now.clean c.self.inside.clean.entries (ap (λ (t : Table). t.clean) c.self.view_is)))

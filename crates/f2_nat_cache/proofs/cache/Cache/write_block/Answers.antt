@@ -19,7 +19,7 @@ returns-clause-held c =
           let here = held_read c.self.inside.held.items c.args.block (Some w.in-Some.held) t.held held within (read_as c.self.inside.held.items c.args.block c.index_mut.result.now (Some w.in-Some.held) c.index_mut.ensures.value w.in-Some.is) in
           let written = w.write_pending.ensures.content ∙ (λ i. with_pending (dirty i) (journal i) c.args.block (w.deref_mut.ensures.value i)) in
           same_table
-          (ap (λ (i : Inside). i.geometry) w.self-inside-is ∙ ap (λ (t : Table). t.extent) c.self.view_is)
+          (ap (λ (i : Inside). i.geometry) w.self-inside-is ∙ ap (λ (t : Table). t.geom) c.self.view_is)
           (ap (λ (i : Inside). i.bitmap) w.self-inside-is ∙ ap (λ (t : Table). t.bitmap) c.self.view_is)
           (ap (λ (i : Inside). i.journal) w.self-inside-is ∙ journal)
           (ap (λ (i : Inside). i.dirty.entries) w.self-inside-is ∙ dirty)

@@ -23,7 +23,7 @@ loop-block-preserved c =
           let is = w.self-is ∙ w.write_block.ensures.held in
           let held = ap (λ (x : Table). x.held) is in
           let pending = sym (pending_alike t s n before.same) ∙ sym w.if-is_pending.ensures in
-          let within : n < length s.held = omega (arith, before.long, c.nat-block-end.ensures.value, ap (λ (x : Table). x.extent.nat) c.self.view_is) in
+          let within : n < length s.held = omega (arith, before.long, c.nat-block-end.ensures.value, ap (λ (x : Table). x.geom.nat) c.self.view_is) in
           let after = reaches_written t s s' n before.same reaches within pending held in
           record {
             same = alike_set t s s' (set s.held n written) before.same is;
@@ -50,5 +50,5 @@ returns-clause-held c =
     let s = c.loop-block.self in
     let before = c.loop-block.invariant in
     let over : fits_journal t ≡ false = grind (arith, nat_tests, c.needed.ensures.value, c.if-needed-le-MOST_JOURNAL_ENTRIES.false) in
-    let done = reaches_all t s (λ k h. before.done k (omega (arith, h, c.loop-block-test.false, c.nat-block-end.ensures.value, ap (λ (x : Table). x.extent.nat) c.self.view_is))) before.long in
-    before.same ∙ ap (λ hs. record t { held = hs }) (done ∙ sym (ap (λ b. cond b t.held (list_map (held_then t) (range_with_len 0 t.extent.nat))) over))
+    let done = reaches_all t s (λ k h. before.done k (omega (arith, h, c.loop-block-test.false, c.nat-block-end.ensures.value, ap (λ (x : Table). x.geom.nat) c.self.view_is))) before.long in
+    before.same ∙ ap (λ hs. record t { held = hs }) (done ∙ sym (ap (λ b. cond b t.held (list_map (held_then t) (range_with_len 0 t.geom.nat))) over))

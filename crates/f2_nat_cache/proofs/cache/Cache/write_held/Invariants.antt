@@ -7,7 +7,7 @@ abbrev pub invariant-loop-block : goal.invariant-loop-block
 invariant-loop-block l =
     record {
       same : l.self ≡ record l.fn.self { held = l.self.held };
-      long : length l.self.held ≡ l.fn.self.extent.nat;
+      long : length l.self.held ≡ l.fn.self.geom.nat;
       done : (k : ℕ) → k < l.block → held_block l.self k ≡ held_then l.fn.self k;
       rest : (k : ℕ) → l.block ≤ k → held_block l.self k ≡ held_block l.fn.self k;
       told : (k : ℕ) (content : List ℕ) → k < l.block → IsTrue (is_pending_block l.fn.self k) → held_block l.fn.self k ≡ Some content → TellsPending l.fn.self k content;

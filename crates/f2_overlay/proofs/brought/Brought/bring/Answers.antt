@@ -5,7 +5,7 @@ use Rattle.f2_overlay.proofs.Bringing.{brought_new}
 use Rattle.f2_overlay.proofs.brought.Brought.bring.Goals as goal
 
 pub returns-then-other-ino-clause-fault : goal.returns-then-other-ino-clause-fault
-returns-then-other-ino-clause-fault c image point place has right brings =
+returns-then-other-ino-clause-fault c image ckpt place has right brings =
     let found = right.only c.args.directory c.args.name c.in-Some.other (sym c.in-Some.ensures) in
     (has, faults.in_log place found.earlier c.in-Some.other c.args.directory c.args.name brings found.brings found.before c.if-other-ino.true)
 

@@ -1,5 +1,5 @@
 use Rattle.std.proofs.Common.{◌≡◌, ◌≢◌, ◌⊎◌, inl, inr, sym, ap, ◌∙◌}
-use Rattle.f2_format.specs.Geometry.{Extent, is_in_data}
+use Rattle.f2_format.specs.Geometry.{ImageGeometry, is_in_data}
 use Rattle.f2_image.specs.Faults as faults
 use Rattle.f2_model.proofs.MapViews.{seen-insert}
 use Rattle.f2_overlay.specs.declared.owners.Owner.{Owner}
@@ -18,11 +18,11 @@ same_owner a b c e ino page = e ∙ whole
     whole i = record { ino = ino i; page = page i }
 
 pub returns-then-not-in_data-clause-fault : goal.returns-then-not-in_data-clause-fault
-returns-then-not-in_data-clause-fault c image point has sizes right is =
-    faults.page has c.args.owner.ino c.args.owner.page is (ap (λ (e : Extent). is_in_data e c.args.at) sizes ∙ sym c.if-not-in_data.ensures)
+returns-then-not-in_data-clause-fault c image ckpt has sizes right is =
+    faults.page has c.args.owner.ino c.args.owner.page is (ap (λ (e : ImageGeometry). is_in_data e c.args.at) sizes ∙ sym c.if-not-in_data.ensures)
 
 pub returns-then-other-owner-clause-fault : goal.returns-then-other-owner-clause-fault
-returns-then-other-owner-clause-fault c image point has sizes right is =
+returns-then-other-owner-clause-fault c image ckpt has sizes right is =
     let found = sym c.get.ensures ∙ c.in-Some.is in
     (has, faults.pages c.args.owner.ino c.args.owner.page c.in-Some.other.ino c.in-Some.other.page is (right.only c.args.at c.in-Some.other found) (other_page c.in-Some.other c.args.owner c.then-other-owner.either))
 

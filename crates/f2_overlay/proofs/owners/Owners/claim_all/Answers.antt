@@ -4,7 +4,7 @@ use Rattle.f2_overlay.proofs.OwnersMore.{more_same, more_then, more_one, here_on
 use Rattle.f2_overlay.proofs.owners.Owners.claim_all.Goals as goal
 
 pub loop-listed-init : goal.loop-listed-init
-loop-listed-init c = record { more = more_same c.args.self.now; listed = λ k small. absurd (omega (arith, small)); right = λ image point sizes listed right. right }
+loop-listed-init c = record { more = more_same c.args.self.now; listed = λ k small. absurd (omega (arith, small)); right = λ image ckpt sizes listed right. right }
 
 pub loop-listed-preserved : goal.loop-listed-preserved
 loop-listed-preserved c =
@@ -14,12 +14,12 @@ loop-listed-preserved c =
     record {
       more = more_then _ _ _ before.more more;
       listed = listed_more c.args.ino c.args.list.now c.loop-listed.listed-index _ _ more before.listed (here_one _ _ _ _ one.alone one.put);
-      right = λ image point sizes listed right.
-          right_one _ _ _ _ one.alone one.put c.args.g.now image point one.inside sizes (listed c.loop-listed.listed-index c.loop-listed-test.true) (before.right image point sizes listed right);
+      right = λ image ckpt sizes listed right.
+          right_one _ _ _ _ one.alone one.put c.args.g.now image ckpt one.inside sizes (listed c.loop-listed.listed-index c.loop-listed-test.true) (before.right image ckpt sizes listed right);
     }
 
 pub returns-in_err-claim-clause-fault : goal.returns-in_err-claim-clause-fault
 returns-in_err-claim-clause-fault c =
     fault_holds _ _ _ c.from_residual.ensures.1
-    (λ image point has sizes listed right.
-    c.in_err-claim.ensures.fault image point has sizes (c.loop-listed.invariant.right image point sizes listed right) (listed c.loop-listed.listed-index c.loop-listed-test.true))
+    (λ image ckpt has sizes listed right.
+    c.in_err-claim.ensures.fault image ckpt has sizes (c.loop-listed.invariant.right image ckpt sizes listed right) (listed c.loop-listed.listed-index c.loop-listed-test.true))

@@ -8,5 +8,5 @@ abbrev pub invariant-loop-listed : goal.invariant-loop-listed
 invariant-loop-listed l = record {
   more : IsMore l.fn.self l.self;
   listed : HasListed l.fn.ino l.list l.listed-index l.self;
-  right : (image : Image) (point : Checkpoint) → point.extent ≡ l.fn.g → AreListed image point l.fn.ino l.list → AreRight image point l.fn.self → AreRight image point l.self;
+  right : (image : Image) (ckpt : Checkpoint) → ckpt.geom ≡ l.fn.g → AreListed image ckpt l.fn.ino l.list → AreRight image ckpt l.fn.self → AreRight image ckpt l.self;
 }

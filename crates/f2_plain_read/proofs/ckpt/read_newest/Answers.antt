@@ -4,7 +4,7 @@ use Rattle.f2_pack.specs.Packs.{IsPackOf}
 use Rattle.f2_pack.specs.declared.packs.Side.TheVariants.{A, B}
 use Rattle.f2_plain_read.proofs.Newest.{newest_pack, no_pack}
 use Rattle.f2_plain_read.proofs.Telling.{told, tells_on}
-use Rattle.f2_plain_read.proofs.point.read_newest.Goals as goal
+use Rattle.f2_plain_read.proofs.ckpt.read_newest.Goals as goal
 
 pub returns-in-Ok-clause-newest : goal.returns-in-Ok-clause-newest
 returns-in-Ok-clause-newest g c image t =

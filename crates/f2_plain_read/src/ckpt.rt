@@ -1,8 +1,8 @@
 //! The sizes of an image, and its newest checkpoint.
 ghost use Rattle.std.specs.Prelude.{◌≡◌, ◌≤◌, ◌<◌, length, Err, IfOk, IfSome, IfNone, OnOk, IsTrue, ◌↔◌};
 ghost use Rattle.f2_disk.specs.Using.{IsCaused, OnlyReads};
-ghost use Rattle.f2_format.specs.Geometry.{Extent};
-ghost use Rattle.f2_format.specs.Superblock.{super_extent};
+ghost use Rattle.f2_format.specs.Geometry.{ImageGeometry};
+ghost use Rattle.f2_format.specs.Superblock.{super_geom};
 ghost use Rattle.f2_image.specs.Images.{Image, block_at, IsSized, IsRightCopy};
 ghost use Rattle.f2_image.specs.Packs.{Side as ImageSide, IsValid};
 ghost use Rattle.f2_image.specs.Faults.{MOST_VERSION as most_version};
@@ -39,10 +39,10 @@ pub(crate) struct Point {
 
 /// The checkpoint of an image whose journal is empty, whose table counts in one copy, and whose version is taken.
 pub(crate) fn read_point<D: Disk>(alloc: Global, disk: &mut D) -> Result<Point, ReadFault>
-    ensures found { IfOk result (λ point. (image : Image) → Tells (D.contents disk.old) image
-        → (tree : Rows) (stored : Stored) → IsLaid image tree stored → IsPointOf stored point) }
-    ensures fits { IfOk result (λ point. point.geometry.blocks ≤ (D.meter disk.old).blocks) }
-    ensures version { IfOk result (λ point. point.version ≤ most_version) }
+    ensures found { IfOk result (λ ckpt. (image : Image) → Tells (D.contents disk.old) image
+        → (tree : Rows) (stored : Stored) → IsLaid image tree stored → IsPointOf stored ckpt) }
+    ensures fits { IfOk result (λ ckpt. ckpt.geometry.blocks ≤ (D.meter disk.old).blocks) }
+    ensures version { IfOk result (λ ckpt. ckpt.version ≤ most_version) }
     ensures bad { result ≡ Err ReadFault.Bad → (image : Image) → Tells (D.contents disk.old) image
         → (tree : Rows) (stored : Stored) → stored.version ≤ most_version → ¬ (IsLaid image tree stored) }
     ensures reads { OnlyReads D.contents D.meter disk.old disk.new }
@@ -66,7 +66,7 @@ pub(crate) fn read_point<D: Disk>(alloc: Global, disk: &mut D) -> Result<Point, 
 fn read_geometry<D: Disk>(alloc: Global, disk: &mut D) -> Result<Geometry, ReadFault>
     ensures sized { IfOk result (λ geometry. (image : Image) → Tells (D.contents disk.old) image → IsSized image geometry) }
     ensures fits { IfOk result (λ geometry. geometry.blocks ≤ (D.meter disk.old).blocks) }
-    ensures bad { result ≡ Err ReadFault.Bad → (image : Image) → Tells (D.contents disk.old) image → (extent : Extent) → ¬ (IsSized image extent) }
+    ensures bad { result ≡ Err ReadFault.Bad → (image : Image) → Tells (D.contents disk.old) image → (geom : ImageGeometry) → ¬ (IsSized image geom) }
     ensures reads { OnlyReads D.contents D.meter disk.old disk.new }
     ensures cause { IsCaused ReadFault.Read result D.meter disk.old disk.new }
 {
@@ -79,7 +79,7 @@ fn read_geometry<D: Disk>(alloc: Global, disk: &mut D) -> Result<Geometry, ReadF
 /// The sizes that a copy of the superblock tells, or `None` where it isn't right.
 fn read_copy<D: Disk>(alloc: Global, disk: &mut D, at: u32) -> Result<Option<Geometry>, ReadFault>
     ensures right { IfOk result (λ found. IfSome found (λ geometry. (image : Image) → Tells (D.contents disk.old) image
-        → IsRightCopy image at × (geometry ≡ super_extent (block_at image at)))) }
+        → IsRightCopy image at × (geometry ≡ super_geom (block_at image at)))) }
     ensures wrong { IfOk result (λ found. IfNone found ((image : Image) → Tells (D.contents disk.old) image → ¬ (IsRightCopy image at))) }
     ensures fits { IfOk result (λ found. IfSome found (λ geometry. geometry.blocks ≤ (D.meter disk.old).blocks)) }
     ensures bad { result ≡ Err ReadFault.Bad → (image : Image) → Tells (D.contents disk.old) image → length image ≤ at }
