@@ -70,8 +70,9 @@ pub data IsOneChange (old new : Contents) : Type 0 where
   write_failed : (at : ℕ) (content : List ℕ) → at < length old → IsBlock content → IsWriteFailed at content old new → IsOneChange old new
   flush : new ≡ flushed old → IsOneChange old new
 
--- What is told stays told, and this holds between what was told before and what is told now.
+-- What is told stays told, and this holds between what was told before and what is told now; a disk that doesn't tell never does.
 abbrev pub WhereTold : Option Contents → Option Contents → (Contents → Contents → Type 0) → Type 0
-WhereTold None new R = ⊤
+WhereTold None None R = ⊤
+WhereTold None (Some now) R = ⊥
 WhereTold (Some before) None R = ⊥
 WhereTold (Some before) (Some now) R = R before now

@@ -10,13 +10,15 @@ either_way (Err e) P Q R left right ok err = right err
 
 -- two relations at once
 pub told_both : (old new : Option Contents) (R S : Contents → Contents → Type 0) → WhereTold old new R → WhereTold old new S → WhereTold old new (λ a b. R a b × S a b)
-told_both None new R S first second = tt
+told_both None None R S first second = tt
+told_both None (Some b) R S first second = first
 told_both (Some a) None R S first second = first
 told_both (Some a) (Some b) R S first second = (first, second)
 
 -- a flush after other calls
 pub told_flushed : (old mid new : Option Contents) (R S : Contents → Contents → Type 0) → ((a b : Contents) → R a b → S a (flushed b)) → WhereTold old mid R → new ≡ option_map flushed mid → WhereTold old new S
-told_flushed None mid new R S after told is = tt
+told_flushed None None new R S after told is = subst (λ (n : Option Contents). WhereTold None n S) (sym is) tt
+told_flushed None (Some b) new R S after told is = absurd told
 told_flushed (Some a) None new R S after told is = absurd told
 told_flushed (Some a) (Some b) new R S after told is = subst (λ (n : Option Contents). WhereTold (Some a) n S) (sym is) (after a b told)
 

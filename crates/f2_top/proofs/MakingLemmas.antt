@@ -48,12 +48,12 @@ pub told_still : (told now : Option Contents) → now ≡ told → WhereTold tol
 told_still told now same = subst (λ t. WhereTold told t ReadsTheSame) (sym same) (told_same told ReadsTheSame (λ c. refl))
 
 pub told_flushed : (told now : Option Contents) → now ≡ option_map flushed told → WhereTold told now ReadsTheSame
-told_flushed None now flush = tt
+told_flushed None now flush = subst (λ t. WhereTold None t ReadsTheSame) (sym flush) tt
 told_flushed (Some lists) now flush = subst (λ t. WhereTold (Some lists) t ReadsTheSame) (sym flush) (latest_alone (latest lists))
 
 -- an image that was made after a flush
 pub told_new : (geom : ImageGeometry) (told mid now : Option Contents) → mid ≡ option_map flushed told → WhereTold mid now (HasNewImage geom) → WhereTold told now (HasNewImage geom)
-told_new geom None mid now flush made = tt
+told_new geom None mid now flush made = subst (λ m. WhereTold m now (HasNewImage geom)) flush made
 told_new geom (Some lists) mid now flush made = new now (subst (λ m. WhereTold m now (HasNewImage geom)) flush made)
   where
     new : (now : Option Contents) → WhereTold (Some (flushed lists)) now (HasNewImage geom) → WhereTold (Some lists) now (HasNewImage geom)
