@@ -5,6 +5,7 @@ pub mod Depths
 pub mod Limited
 pub mod OneBase
 pub mod OneMarks
+pub mod OneName
 pub mod Routes
 pub mod SameBase
 pub mod SomeBase

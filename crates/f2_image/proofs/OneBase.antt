@@ -15,7 +15,8 @@ use Rattle.f2_model.specs.declared.rows.Kind.TheVariants.{Regular, Directory}
 use Rattle.f2_image.specs.Images.{Image}
 use Rattle.f2_image.specs.Packs.{Checkpoint}
 use Rattle.f2_image.specs.Nodes.{block_there, page_address}
-use Rattle.f2_image.specs.Bases.{IsReached, root, below, HasContent, IsBaseRow, StandsAs, IsBase, inode_kind}
+use Rattle.f2_image.specs.Bases.{IsReached, root, below, HasContent, IsBaseRow, IsBase, inode_kind}
+use Rattle.f2_image.proofs.OneName.{Carries, carries, root_carries}
 
 -- what two options that have one thing have is the same
 pub same_some : {X : Type 0} (x y : X) → Some x ≡ Some y → x ≡ y
@@ -42,9 +43,9 @@ module _ (image : Image) (ckpt : Checkpoint) where
   name_of _ root = []
   name_of _ (below directory dentry up has) = dentry.name
 
-  stands : (tree : Rows) → IsBase image ckpt tree → (ino : ℕ) (reached : IsReached image ckpt ino) → StandsAs tree ino (directory_of ino reached) (name_of ino reached)
-  stands tree base _ root = base.root
-  stands tree base _ (below directory dentry up has) = base.names directory dentry up has
+  stands : (tree : Rows) → IsBase image ckpt tree → (ino : ℕ) (reached : IsReached image ckpt ino) → Carries tree ino (directory_of ino reached) (name_of ino reached)
+  stands tree base _ root = root_carries tree base.root
+  stands tree base _ (below directory dentry up has) = carries tree dentry.ino directory dentry.name (base.names directory dentry up has)
 
   -- the contents of two rows of one inode
   same_content : (inode : List ℕ) (kind : Kind) (a b : Row) → HasContent image ckpt inode kind a → HasContent image ckpt inode kind b → (a.size ≡ b.size) × (a.pages ≡ b.pages)

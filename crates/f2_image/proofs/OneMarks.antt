@@ -11,6 +11,7 @@ use Rattle.f2_image.specs.Packs.{Checkpoint}
 use Rattle.f2_image.specs.Nodes.{block_there}
 use Rattle.f2_image.specs.Chains.{Logged, chain, block_in, marked_places, marked_address, IsNamed, IsMark, AreMarks}
 use Rattle.f2_image.proofs.OneBase.{same_some, same_pages}
+use Rattle.f2_image.proofs.OneName.{told_alone}
 
 -- two lists that go with one list
 one_list : {X Y : Type 0} (R : X → Y → Type 0) → ((x : X) (a b : Y) → R x a → R x b → a ≡ b) → (xs : List X) (ys zs : List Y) → AllZip R xs ys → AllZip R xs zs → ys ≡ zs
@@ -25,8 +26,11 @@ one_list R one (x ∷ xs) (a ∷ ys) (b ∷ zs) p q =
     λ i. first i ∷ rest i
 
 same_names : (base : Rows) (inode : List ℕ) (a b : Row) (old : Option Row) → IsNamed base inode a old → IsNamed base inode b old → (a.parent ≡ b.parent) × (a.name ≡ b.name)
-same_names base inode a b None p q = (p.0 ∙ sym q.0, p.1 ∙ sym q.1)
-same_names base inode a b (Some old) p q = (p.0 ∙ sym q.0, p.1 ∙ sym q.1)
+same_names base inode a b None p q =
+    let first = told_alone a _ _ p in
+    let second = told_alone b _ _ q in
+    (first.1 ∙ sym second.1, first.2 ∙ sym second.2)
+same_names base inode a b (Some old) p q = (p.1 ∙ sym q.1, p.2 ∙ sym q.2)
 
 module _ (image : Image) (ckpt : Checkpoint) (base : Rows) where
   one_mark : (log : List Logged) (place : ℕ) (a b : Mark) → IsMark image ckpt base log place a → IsMark image ckpt base log place b → a ≡ b

@@ -209,4 +209,11 @@ module _ (image other : Image) (ckpt : Checkpoint) (agree : (at : ℕ) → IsRea
     };
     root = is.root;
     names = λ directory dentry reach has. let before = reached_before directory reach in is.names directory dentry before (dentry_before directory dentry before has);
+    named = λ ino row there directory name among. let at = is.named ino row there directory name among in record {
+      reached = reached_too directory at.reached;
+      dentry = at.dentry;
+      has = dentry_too directory at.dentry at.reached at.has;
+      own = at.own;
+      named = at.named;
+    };
   }

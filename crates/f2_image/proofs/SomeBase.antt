@@ -16,7 +16,7 @@ use Rattle.f2_model.specs.declared.rows.Kind.TheVariants.{Regular, Directory}
 use Rattle.f2_image.specs.Images.{Image, block_at}
 use Rattle.f2_image.specs.Packs.{Checkpoint}
 use Rattle.f2_image.specs.Nodes.{node, node_address, block_there, page_address}
-use Rattle.f2_image.specs.Bases.{IsInode, HasDentryAt, HasDentry, IsReached, HasContent, IsBaseRow, StandsAs, IsBase, inode_kind}
+use Rattle.f2_image.specs.Bases.{IsInode, HasDentryAt, HasDentry, IsReached, HasContent, IsBaseRow, IsBase, inode_kind}
 use Rattle.f2_image.specs.Bases as bases
 use Rattle.f2_image.specs.Reached as reached
 use Rattle.f2_format.specs.Journal.{journal_count, MOST_JOURNAL_ENTRIES}
@@ -24,6 +24,7 @@ use Rattle.f2_image.specs.Faults.{IsBelow, IsSound, HasTable, Which, Journal, Ba
 use Rattle.f2_image.specs.Faults as faults
 use Rattle.f2_image.proofs.Limited.{some_below, MapBelow, map_below}
 use Rattle.f2_image.proofs.Dentries.{node_in_table, same_dentry}
+use Rattle.f2_image.proofs.OneName.{Carries, StandsOnce, has_root, base_of_once}
 use Rattle.f2_image.proofs.Depths.{IsDown, is_down, down_of, below_of, reached_of, some_depth}
 
 -- a depth that no ino has
@@ -196,7 +197,7 @@ module _ (image : Image) (ckpt : Checkpoint) (sound : IsSound image ckpt) where
   rows = map_below (λ ino. (chosen ino).row) (nid_limit ckpt.geom)
 
   -- the base has a row where an ino stands
-  stands : (ino directory : ℕ) (name : List ℕ) → IsPlaced image ckpt ino directory name → StandsAs rows.entries ino directory name
+  stands : (ino directory : ℕ) (name : List ℕ) → IsPlaced image ckpt ino directory name → Carries rows.entries ino directory name
   stands ino directory name at = by_choice (chosen ino).row refl
     where
       reach : IsReached image ckpt ino
@@ -205,18 +206,21 @@ module _ (image : Image) (ckpt : Checkpoint) (sound : IsSound image ckpt) where
       within : ino < nid_limit ckpt.geom
       within = let found = has_node ino reach in node_in_table image ckpt ino found.0 found.1
 
-      by_choice : (o : Option Row) → (chosen ino).row ≡ o → StandsAs rows.entries ino directory name
+      by_choice : (o : Option Row) → (chosen ino).row ≡ o → Carries rows.entries ino directory name
       by_choice None e = absurd ((chosen ino).absent e reach)
       by_choice (Some row) e =
           let same = one_place ino row.parent directory row.name name ((chosen ino).present row e).1 at in
           record { row = row; there = rows.below ino within ∙ e; parent = same.0; named = same.1 }
 
+  are_rows : (ino : ℕ) (row : Row) → map.get rows.entries ino ≡ Some row → IsBaseRow image ckpt ino row
+  are_rows ino row there = ((chosen ino).present row (sym (rows.below ino (rows.within ino row there)) ∙ there)).0
+
+  are_named : (directory : ℕ) (dentry : Dentry) → IsReached image ckpt directory → HasDentry image ckpt directory dentry → StandsOnce rows.entries dentry.ino directory dentry.name
+  are_named directory dentry up has =
+      let at = stands dentry.ino directory dentry.name (inr (dentry, up, has, refl, refl)) in
+      record { row = at.row; there = at.there; not_root = λ is. not_root directory dentry up has (sym (are_rows dentry.ino at.row at.there).own ∙ is); parent = at.parent; named = at.named }
+
   pub some_base : (base : Rows) × IsBase image ckpt base
-  some_base = (
-    rows.entries,
-    record {
-      rows = λ ino row there. ((chosen ino).present row (sym (rows.below ino (rows.within ino row there)) ∙ there)).0;
-      root = stands ROOT ROOT [] (inl (refl, refl, refl));
-      names = λ directory dentry up has. stands dentry.ino directory dentry.name (inr (dentry, up, has, refl, refl));
-    },
-  )
+  some_base =
+      let top = stands ROOT ROOT [] (inl (refl, refl, refl)) in
+      (rows.entries, base_of_once image ckpt rows.entries are_rows are_named (has_root rows.entries top.row top.there (are_rows ROOT top.row top.there).own top.parent top.named))

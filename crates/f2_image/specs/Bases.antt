@@ -1,12 +1,12 @@
 -- The base of an image: the rows that are reached from the root along the names of directories.
-use Rattle.std.specs.Prelude.{◌≡◌, ◌≢◌, ℕ, ◌<◌, ◌==◌, if◌then◌else◌, IsTrue, List, [], Option, Some, None}
+use Rattle.std.specs.Prelude.{◌≡◌, ◌≢◌, ℕ, ◌<◌, ◌==◌, if◌then◌else◌, IsTrue, List, [], Contains, Option, Some, None}
 use Rattle.std.specs.FinMap as map
 use Rattle.f2_format.specs.Offsets.{page_limit}
 use Rattle.f2_format.specs.Inode.{inode_of, mode_kind, REGULAR_KIND, DIRECTORY_KIND}
 use Rattle.f2_format.specs.Packing.{SLOTS_A_BLOCK}
 use Rattle.f2_format.specs.Dentry.{Dentry, dentry_at, begins_name}
 use Rattle.f2_model.specs.Content.{PageMap}
-use Rattle.f2_model.specs.Tree.{Rows, ROOT}
+use Rattle.f2_model.specs.Tree.{Rows, ROOT, names_of}
 use Rattle.f2_model.specs.declared.rows.Row.{Row}
 use Rattle.f2_model.specs.declared.rows.Kind.{Kind}
 use Rattle.f2_model.specs.declared.rows.Kind.TheVariants.{Regular, Directory}
@@ -61,7 +61,7 @@ abbrev pub HasContent : Image → Checkpoint → List ℕ → Kind → Row → T
 HasContent image ckpt inode Regular row = (row.size ≡ (inode_of inode).size) × ArePages image ckpt inode row.pages × ((page : ℕ) (bytes : List ℕ) → map.get row.pages page ≡ Some bytes → page < page_limit)
 HasContent image ckpt inode Directory row = (row.size ≡ 0) × (row.pages ≡ map.empty)
 
--- a row of the base, but for its parent and its name
+-- a row of the base, but for its names
 pub record IsBaseRow (image : Image) (ckpt : Checkpoint) (ino : ℕ) (row : Row) : Type 0 where
   pub own : row.ino ≡ ino
   pub reached : IsReached image ckpt ino
@@ -69,15 +69,32 @@ pub record IsBaseRow (image : Image) (ckpt : Checkpoint) (ino : ℕ) (row : Row)
   pub is : IsInode image ckpt ino row.kind inode
   pub content : HasContent image ckpt inode row.kind row
 
--- a row that stands in a directory under a name
+-- a row that stands in a directory under a name: that is one of its names
 pub record StandsAs (tree : Rows) (ino directory : ℕ) (name : List ℕ) : Type 0 where
   pub row : Row
   pub there : map.get tree ino ≡ Some row
-  pub parent : row.parent ≡ directory
-  pub named : row.name ≡ name
+  pub named : Contains (names_of row) (directory, name)
 
--- the base of an image
+-- a dentry of a directory of the base that gives an ino this name
+pub record IsNameOf (image : Image) (ckpt : Checkpoint) (ino directory : ℕ) (name : List ℕ) : Type 0 where
+  pub reached : IsReached image ckpt directory
+  pub dentry : Dentry
+  pub has : HasDentry image ckpt directory dentry
+  pub own : dentry.ino ≡ ino
+  pub named : dentry.name ≡ name
+
+-- the root's row: no name is its own, and so what it carries as parent and name is told apart
+pub record HasRoot (tree : Rows) : Type 0 where
+  pub row : Row
+  pub there : map.get tree ROOT ≡ Some row
+  pub unnamed : names_of row ≡ []
+  pub parent : row.parent ≡ ROOT
+  pub named : row.name ≡ []
+
+-- the base of an image; its rows' names are the dentries of its directories, no more and no fewer. So a tree with a row under a name
+-- that no dentry has is no base: `named` refuses it, also where the row's ino is reached by another name
 pub record IsBase (image : Image) (ckpt : Checkpoint) (tree : Rows) : Type 0 where
   pub rows : (ino : ℕ) (row : Row) → map.get tree ino ≡ Some row → IsBaseRow image ckpt ino row
-  pub root : StandsAs tree ROOT ROOT []
+  pub root : HasRoot tree
   pub names : (directory : ℕ) (dentry : Dentry) → IsReached image ckpt directory → HasDentry image ckpt directory dentry → StandsAs tree dentry.ino directory dentry.name
+  pub named : (ino : ℕ) (row : Row) → map.get tree ino ≡ Some row → (directory : ℕ) (name : List ℕ) → Contains (names_of row) (directory, name) → IsNameOf image ckpt ino directory name

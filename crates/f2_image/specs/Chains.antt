@@ -4,7 +4,8 @@
 -- - A block of another version (is_recoverable_dnode) isn't of the log: the log ends before it. So it does at the next address 0.
 -- - A next address that no block of the log can have: the kernel ends there, here the image is refused.
 -- - A log that doesn't end, which is a loop: refused, there and here.
--- - A marked inode of a file that the base has brings its size and pages. Its name and its parent aren't looked at: they are the base's.
+-- - A marked inode of a file that the base has brings its size and pages. Its name and its parent aren't looked at: the file's names
+--   are the base's.
 -- - A marked inode of a file that the base hasn't brings its name and parent too where it has the dentry mark. Without that mark the
 --   kernel passes over it, here the image is refused. Where the file is marked again, its name is that of its last mark.
 -- - An unmarked inode: not taken; only a marked one tells a size.
@@ -21,7 +22,7 @@ use Rattle.f2_format.specs.Geometry.{node_third}
 use Rattle.f2_format.specs.Footer.{footer_ino, footer_offset, footer_version, footer_next, has_fsync_mark}
 use Rattle.f2_format.specs.Inode.{inode_of}
 use Rattle.f2_model.specs.Content.{PageMap}
-use Rattle.f2_model.specs.Tree.{Rows}
+use Rattle.f2_model.specs.Tree.{Rows, names_of}
 use Rattle.f2_model.specs.State.{Mark}
 use Rattle.f2_model.specs.declared.rows.Row.{Row}
 use Rattle.f2_image.specs.Images.{Image, block_at}
@@ -97,10 +98,11 @@ pub record AreMarkedPages (image : Image) (ckpt : Checkpoint) (log : List Logged
   pub within : (page : ℕ) (bytes : List ℕ) → map.get pages page ≡ Some bytes → page < page_limit
   pub blocks : (page : ℕ) → page < page_limit → map.get pages page ≡ block_there image (marked_address image ckpt log place page)
 
--- the parent and the name of a marked row: those of the base where its ino is there, else those of its inode
+-- the names of a marked row: those of the base where its ino is there, else the one that its inode tells. Where they are the base's, so
+-- are the parent and the name that the row carries, which a root's names don't tell
 abbrev pub IsNamed : Rows → List ℕ → Row → Option Row → Type 0
-IsNamed base inode row (Some old) = (row.parent ≡ old.parent) × (row.name ≡ old.name)
-IsNamed base inode row None = (row.parent ≡ (inode_of inode).parent) × (row.name ≡ take (inode_of inode).name_length (inode_of inode).name)
+IsNamed base inode row (Some old) = (names_of row ≡ names_of old) × (row.parent ≡ old.parent) × (row.name ≡ old.name)
+IsNamed base inode row None = names_of row ≡ ((inode_of inode).parent, take (inode_of inode).name_length (inode_of inode).name) ∷ []
 
 -- the mark whose block stands at this place
 pub record IsMark (image : Image) (ckpt : Checkpoint) (base : Rows) (log : List Logged) (place : ℕ) (mark : Mark) : Type 0 where

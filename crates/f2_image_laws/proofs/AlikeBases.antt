@@ -46,4 +46,8 @@ module _ (image other : Image) (ckpt : Checkpoint) (alike : IsAlike image other 
         let back = alike_back image other ckpt alike in
         let there = reached_of_other other image ckpt back directory reach in
         is.names directory dentry there (dentry_of_other other image ckpt back directory dentry there has);
+    named = λ ino row there directory name among.
+        let at = is.named ino row there directory name among in
+        let reach = reached_of_other image other ckpt alike directory at.reached in
+        record { reached = reach; dentry = at.dentry; has = dentry_of_other image other ckpt alike directory at.dentry reach at.has; own = at.own; named = at.named };
   }

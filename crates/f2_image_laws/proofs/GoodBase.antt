@@ -14,12 +14,12 @@ use Rattle.f2_model.specs.declared.rows.Kind.{Kind}
 use Rattle.f2_model.specs.declared.rows.Kind.TheVariants.{Regular, Directory}
 use Rattle.f2_image.specs.Images.{Image, IsSized}
 use Rattle.f2_image.specs.Packs.{Checkpoint}
-use Rattle.f2_image.specs.Bases.{IsInode, HasDentryAt, HasDentry, IsReached, IsBase}
+use Rattle.f2_image.specs.Bases.{IsInode, HasDentryAt, HasDentry, IsReached, IsNameOf, IsBase}
 use Rattle.f2_image.specs.Faults.{IsSound, IsBelow}
 use Rattle.f2_image.specs.Faults as faults
 use Rattle.f2_image.proofs.Dentries.{same_dentry}
 use Rattle.f2_image.proofs.Depths.{some_depth}
-use Rattle.f2_image_laws.specs.Named.{HasName}
+use Rattle.f2_image.proofs.OneName.{names_once}
 use Rattle.f2_image_laws.proofs.Names.{row_has_name}
 use Rattle.f2_image_laws.proofs.AlikeTrees.{below_is_reached}
 use Rattle.f2_image_laws.proofs.Sound.{no_bad_tree}
@@ -27,7 +27,7 @@ use Rattle.f2_image_laws.proofs.BaseRows.{dentry_above, directory_row, base_page
 use Rattle.f2_image_laws.proofs.Numbers.{not_less}
 
 module _ (image : Image) (ckpt : Checkpoint) (sound : IsSound image ckpt) (base : Rows) (is_base : IsBase image ckpt base) where
-  name_of : (ino : ℕ) (row : Row) → map.get base ino ≡ Some row → ino ≢ ROOT → HasName image ckpt ino row
+  name_of : (ino : ℕ) (row : Row) → map.get base ino ≡ Some row → ino ≢ ROOT → IsNameOf image ckpt ino row.parent row.name
   name_of = row_has_name image ckpt base is_base
 
   -- the root
@@ -51,8 +51,8 @@ module _ (image : Image) (ckpt : Checkpoint) (sound : IsSound image ckpt) (base 
       (root.row, ap (map.get base) (ap (λ (r : Row). r.parent) (sym same) ∙ root.parent) ∙ root.there, root_kind)
   parent_of ino row there (no other) = of_dentry (name_of ino row there other)
     where
-      of_dentry : HasName image ckpt ino row → (up : Row) × (map.get base row.parent ≡ Some up) × (up.kind ≡ Directory)
-      of_dentry name = let has = name.has.2 in directory_row image ckpt sound base is_base row.parent (name.up, (has.block.inode, has.block.is))
+      of_dentry : IsNameOf image ckpt ino row.parent row.name → (up : Row) × (map.get base row.parent ≡ Some up) × (up.kind ≡ Directory)
+      of_dentry name = let has = name.has.2 in directory_row image ckpt sound base is_base row.parent (name.reached, (has.block.inode, has.block.is))
 
   -- under a good name
   good_name : (ino : ℕ) (row : Row) → map.get base ino ≡ Some row → ino ≢ ROOT → IsTrue (is_good_name row.name)
@@ -62,7 +62,7 @@ module _ (image : Image) (ckpt : Checkpoint) (sound : IsSound image ckpt) (base 
       by_test true e = e
       by_test false e =
           let name = name_of ino row there other in
-          absurd (no_bad_tree image ckpt sound ino (faults.bad_name row.parent name.dentry name.up name.has (ap is_good_name name.named ∙ e) name.is))
+          absurd (no_bad_tree image ckpt sound ino (faults.bad_name row.parent name.dentry name.reached name.has (ap is_good_name name.named ∙ e) name.own))
 
   -- of its own
   same_ino : (i j directory : ℕ) (a b : Dentry) → IsReached image ckpt directory → HasDentry image ckpt directory a → HasDentry image ckpt directory b → a.name ≡ b.name → a.ino ≡ i → b.ino ≡ j → i ≡ j
@@ -82,14 +82,14 @@ module _ (image : Image) (ckpt : Checkpoint) (sound : IsSound image ckpt) (base 
   apart i j a b p q other_i other_j parents names =
       let n = name_of i a p other_i in
       let m = name_of j b q other_j in
-      same_ino i j a.parent n.dentry m.dentry n.up n.has (subst (λ d. HasDentry image ckpt d m.dentry) (sym parents) m.has) (n.named ∙ names ∙ sym m.named) n.is m.is
+      same_ino i j a.parent n.dentry m.dentry n.reached n.has (subst (λ d. HasDentry image ckpt d m.dentry) (sym parents) m.has) (n.named ∙ names ∙ sym m.named) n.own m.own
 
   -- and not too deep
   at_depth : (depth ino : ℕ) → IsBelow image ckpt depth ino → IsAtDepth base depth ino
   at_depth _ _ faults.root = refl
   at_depth _ _ (faults.deeper depth directory dentry up has) =
       let reach = below_is_reached image ckpt depth directory up in
-      let at = is_base.names directory dentry reach has in
+      let at = names_once image ckpt base is_base directory dentry reach has in
       let above : IsAtDepth base depth at.row.parent = subst (IsAtDepth base depth) (sym at.parent) (at_depth depth directory up) in
       let whole : IsAtDepth base (suc depth) dentry.ino = ((λ root. not_root dentry.ino (dentry_above image ckpt sound base is_base directory dentry reach has) root), (at.row, at.there, above)) in
       subst (λ d. IsAtDepth base d dentry.ino) (sym (add-one depth)) whole

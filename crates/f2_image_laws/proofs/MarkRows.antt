@@ -1,5 +1,5 @@
 -- The rows of the marks of a sound image, each by itself.
-use Rattle.std.proofs.Common.{◌≡◌, ◌≢◌, inl, inr, ℕ, ◌<◌, ◌≤◌, ◌==◌, ◌&&◌, Bool, true, false, IsTrue, All, refl, sym, ap, ◌∙◌, subst, arith}
+use Rattle.std.proofs.Common.{◌≡◌, ◌≢◌, inl, inr, ℕ, ◌<◌, ◌≤◌, ◌==◌, ◌&&◌, Bool, true, false, IsTrue, All, List, take, refl, sym, ap, ◌∙◌, subst, arith}
 use Rattle.std.specs.Prelude.{Option, Some, None}
 use Rattle.std.specs.FinMap as map
 use Rattle.std.proofs.lemmas.Option.{same_Some}
@@ -10,7 +10,7 @@ use Rattle.f2_format.specs.Footer.{footer_nid, footer_ino, footer_offset, has_fs
 use Rattle.f2_format.specs.Inode.{inode_of, SIZE_LIMIT}
 use Rattle.f2_disk.specs.Contents.{IsBlock}
 use Rattle.f2_model.specs.Names.{is_good_name}
-use Rattle.f2_model.specs.Tree.{Rows, HasGoodPages}
+use Rattle.f2_model.specs.Tree.{Rows, ROOT, HasGoodPages}
 use Rattle.f2_model.specs.State.{Mark}
 use Rattle.f2_model.specs.declared.rows.Row.{Row}
 use Rattle.f2_model.specs.declared.rows.Kind.{Kind}
@@ -23,6 +23,7 @@ use Rattle.f2_image.specs.Reached.{IsMarkedAt, IsMarkedPage, IsTaken}
 use Rattle.f2_image.specs.Reached as reached
 use Rattle.f2_image.specs.Faults.{IsSound, IsDirectoryOf, BringsName, IsPastSize}
 use Rattle.f2_image.specs.Faults as faults
+use Rattle.f2_image.proofs.OneName.{told_alone}
 use Rattle.f2_image_laws.proofs.Sound.{no_bad_nat, no_bad_inode, no_bad_tree, none_without_parent, page_is_block}
 use Rattle.f2_image_laws.proofs.Pages.{kinds_differ, good_pages}
 use Rattle.f2_image_laws.proofs.BaseRows.{not_reached, directory_row}
@@ -78,7 +79,9 @@ module _ (image : Image) (ckpt : Checkpoint) (sound : IsSound image ckpt) (base 
 
   -- the name of a file of the base stays, another one's comes with the mark
   pub keeps : (old : Row) → map.get base mark.ino ≡ Some old → (mark.row.parent ≡ old.parent) × (mark.row.name ≡ old.name)
-  keeps old there = subst (IsNamed base (block_in (chain image ckpt) place) mark.row) there is.named
+  keeps old there =
+      let named : IsNamed base (block_in (chain image ckpt) place) mark.row (Some old) = subst (IsNamed base (block_in (chain image ckpt) place) mark.row) there is.named in
+      (named.1, named.2)
 
   pub brings : map.get base mark.ino ≡ None → BringsName image ckpt place mark.ino mark.row.parent mark.row.name
   brings none = record {
@@ -86,12 +89,15 @@ module _ (image : Image) (ckpt : Checkpoint) (sound : IsSound image ckpt) (base 
     marked = marked;
     own = own;
     fresh = not_reached image ckpt sound base is_base mark.ino none;
-    under = sym named.0;
-    named = sym named.1;
+    under = sym named.1;
+    named = sym named.2;
   }
     where
-      named : IsNamed base (block_in (chain image ckpt) place) mark.row None
-      named = subst (IsNamed base (block_in (chain image ckpt) place) mark.row) none is.named
+      block : List ℕ
+      block = block_in (chain image ckpt) place
+
+      named : (mark.row.ino ≢ ROOT) × (mark.row.parent ≡ (inode_of block).parent) × (mark.row.name ≡ take (inode_of block).name_length (inode_of block).name)
+      named = told_alone mark.row _ _ (subst (IsNamed base block mark.row) none is.named)
 
   -- it is a good one, in a directory of the base
   pub brings_good : map.get base mark.ino ≡ None → IsTrue (is_good_name mark.row.name)

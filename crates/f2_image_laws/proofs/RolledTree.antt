@@ -18,7 +18,7 @@ use Rattle.f2_model.specs.declared.rows.Kind.{Kind}
 use Rattle.f2_model.specs.declared.rows.Kind.TheVariants.{Regular, Directory}
 use Rattle.f2_image.specs.Images.{Image, IsSized}
 use Rattle.f2_image.specs.Packs.{Checkpoint}
-use Rattle.f2_image.specs.Bases.{HasDentry, IsReached, IsBase}
+use Rattle.f2_image.specs.Bases.{HasDentry, IsReached, IsNameOf, IsBase}
 use Rattle.f2_image.specs.Chains.{chain, block_in, is_marked, IsMark, AreMarks}
 use Rattle.f2_image.specs.Reached.{IsMarkedAt}
 use Rattle.f2_image.specs.Faults.{IsSound, BringsName, HasTree}
@@ -27,7 +27,6 @@ use Rattle.f2_image.specs.Meanings.{MeansAt}
 use Rattle.f2_room_laws.specs.ProperTrees.{IsProperTree}
 use Rattle.f2_room_laws.specs.Marking.{MayComeIn}
 use Rattle.f2_room_laws.proofs.Marks.{rows_come_in}
-use Rattle.f2_image_laws.specs.Named.{HasName}
 use Rattle.f2_image_laws.specs.Rolled.{image_limits}
 use Rattle.f2_image_laws.proofs.Names.{row_has_name}
 use Rattle.f2_image_laws.proofs.Sound.{no_conflict, none_full}
@@ -72,8 +71,8 @@ module _ (image : Image) (ckpt : Checkpoint) (sound : IsSound image ckpt) (base 
   -- a name that a mark brings stands in no directory of the base
   pub not_in_base : (place ino parent : ℕ) (name : List ℕ) (at : ℕ) (old : Row) → BringsName image ckpt place ino parent name → map.get base at ≡ Some old → at ≢ ROOT → old.parent ≡ parent → old.name ≡ name → ⊥
   not_in_base place ino parent name at old brings there other under named =
-      let has : HasName image ckpt at old = row_has_name image ckpt base is_base at old there other in
-      no_conflict image ckpt sound ino (faults.in_base place parent name has.dentry brings (subst (IsReached image ckpt) under has.up) (subst (λ d. HasDentry image ckpt d has.dentry) under has.has) (has.named ∙ named))
+      let has : IsNameOf image ckpt at old.parent old.name = row_has_name image ckpt base is_base at old there other in
+      no_conflict image ckpt sound ino (faults.in_base place parent name has.dentry brings (subst (IsReached image ckpt) under has.reached) (subst (λ d. HasDentry image ckpt d has.dentry) under has.has) (has.named ∙ named))
 
   -- what came from a mark before a place came from one before the next place
   later : (place ino : ℕ) (row : Row) → IsOfBase base ino row ⊎ IsOfMark image ckpt place ino row → IsOfBase base ino row ⊎ IsOfMark image ckpt (place + 1) ino row

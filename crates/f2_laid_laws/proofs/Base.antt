@@ -13,7 +13,8 @@ use Rattle.f2_model.specs.declared.rows.Kind.TheVariants.{Regular, Directory}
 use Rattle.f2_image.specs.Images.{Image, IsSized, by_first, by_second}
 use Rattle.f2_image.specs.Packs.{Checkpoint}
 use Rattle.f2_image.specs.Nodes.{block_there, page_address}
-use Rattle.f2_image.specs.Bases.{HasDentryAt, HasDentry, IsReached, root, below, HasContent, IsBase}
+use Rattle.f2_image.specs.Bases.{HasDentryAt, HasDentry, IsReached, root, below, HasContent, IsBaseRow, IsBase}
+use Rattle.f2_image.proofs.OneName.{StandsOnce, has_root, base_of_once}
 use Rattle.f2_laid.specs.Laid.{page_at, page_in, IsStorable, IsLaidAt, IsBound}
 use Rattle.f2_laid.specs.declared.stored.Stored.{Stored}
 use Rattle.f2_laid_laws.proofs.Homes.{IsHome, home, inode_block, is_inode, inode_is, page_found, page_past}
@@ -101,18 +102,20 @@ module _ (image : Image) (ckpt : Checkpoint) (tree : Rows) (stored : Stored) (is
       (sym ((home_of ino row there).inode.own_size e), file_page ino row there e, λ page bytes h. let short = is.can.short_files ino page row bytes there h in omega arith)
   content ino row there Directory e = (is.can.good.pages ino row there).directory e
 
-  pub is_base : IsBase image ckpt tree
-  is_base = record {
-    rows = λ ino row there. let at = home_of ino row there in record {
-      own = at.own;
-      reached = reached ino row there;
-      inode = inode_block image ckpt tree stored ino row at;
-      is = is_inode image ckpt tree stored ino row at;
-      content = content ino row there row.kind refl;
-    };
-    root = let top = is.can.good.root in record { row = top.0; there = top.1; parent = top.2.parent; named = top.2.name };
-    names = λ directory dentry up has.
-        let under = in_tree directory up in
-        let to = bound directory has.0 has.1 dentry under.0 under.1 has.2 in
-        record { row = to.row; there = to.there; parent = to.parent; named = to.named };
+  are_rows : (ino : ℕ) (row : Row) → map.get tree ino ≡ Some row → IsBaseRow image ckpt ino row
+  are_rows ino row there = let at = home_of ino row there in record {
+    own = at.own;
+    reached = reached ino row there;
+    inode = inode_block image ckpt tree stored ino row at;
+    is = is_inode image ckpt tree stored ino row at;
+    content = content ino row there row.kind refl;
   }
+
+  are_named : (directory : ℕ) (dentry : Dentry) → IsReached image ckpt directory → HasDentry image ckpt directory dentry → StandsOnce tree dentry.ino directory dentry.name
+  are_named directory dentry up has =
+      let under = in_tree directory up in
+      let to = bound directory has.0 has.1 dentry under.0 under.1 has.2 in
+      record { row = to.row; there = to.there; not_root = λ root. to.below (sym (home_of dentry.ino to.row to.there).own ∙ root); parent = to.parent; named = to.named }
+
+  pub is_base : IsBase image ckpt tree
+  is_base = let top = is.can.good.root in base_of_once image ckpt tree are_rows are_named (has_root tree top.0 top.1 top.2.ino top.2.parent top.2.name)

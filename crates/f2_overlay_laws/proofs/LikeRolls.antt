@@ -15,6 +15,7 @@ use Rattle.f2_image.specs.Packs.{Checkpoint}
 use Rattle.f2_image.specs.Nodes.{block_there}
 use Rattle.f2_image.specs.Bases.{inode_kind}
 use Rattle.f2_image.specs.Chains.{chain, block_in, marked_address, IsNamed, IsMark}
+use Rattle.f2_image.proofs.OneName.{told_alone}
 use Rattle.f2_overlay.specs.Rolls.{IsRollNamed, IsRollAt}
 use Rattle.f2_overlay.specs.declared.rolls.Roll.{Roll}
 use Rattle.f2_recover.specs.declared.rows.BaseRow.{BaseRow}
@@ -33,10 +34,10 @@ some_there image at some = ap (λ b. cond b None (Some (block_at image at))) (ne
 -- the base's directory and name, or those that the block brings
 same_names : (image : Image) (tree : Rows) (block : List ℕ) (row : Row) (roll : Roll) (old : Option Row) (base : Option BaseRow) → AreAlike image old base → IsNamed tree block row old → IsRollNamed block roll base
     → (row.parent ≡ roll.parent) × (row.name ≡ roll.name)
-same_names image tree block row roll None None like p q = (p.0 ∙ sym q.0, p.1 ∙ sym q.1)
+same_names image tree block row roll None None like p q = let told = told_alone row _ _ p in (told.1 ∙ sym q.0, told.2 ∙ sym q.1)
 same_names image tree block row roll None (Some base) like p q = absurd like
 same_names image tree block row roll (Some old) None like p q = absurd like
-same_names image tree block row roll (Some old) (Some base) like p q = (p.0 ∙ like.parent ∙ sym q.0, p.1 ∙ like.named ∙ sym q.1)
+same_names image tree block row roll (Some old) (Some base) like p q = (p.1 ∙ like.parent ∙ sym q.0, p.2 ∙ like.named ∙ sym q.1)
 
 module _ (image : Image) (ckpt : Checkpoint) (walk : Walk) (base : Rows) (place ino : ℕ) (mark : Mark) (roll : Roll) (is : IsMark image ckpt base (chain image ckpt) place mark) (at : IsRollAt image ckpt walk place ino roll) where
   abbrev address : ℕ → ℕ

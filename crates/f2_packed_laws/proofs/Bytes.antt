@@ -18,7 +18,8 @@ use Rattle.f2_image.specs.Images.{Image, block_at}
 use Rattle.f2_image.specs.Packs.{Checkpoint, recovery_version}
 use Rattle.f2_image.specs.Chains.{Logged, chain_from, chain, block_in, no_block, IsNamed, IsMark}
 use Rattle.f2_image.specs.Meanings.{MeansAt}
-use Rattle.f2_image_laws.specs.Named.{HasName}
+use Rattle.f2_image.specs.Bases.{IsNameOf}
+use Rattle.f2_image.proofs.OneName.{told_alone}
 use Rattle.f2_image_laws.proofs.Names.{row_has_name}
 use Rattle.f2_mount_laws.proofs.Origins.{Origin, of_base, of_mark}
 use Rattle.f2_packed_laws.proofs.Rolled.{from}
@@ -69,7 +70,7 @@ module _ (image : Image) (blocks : All IsBlock image) where
   module _ (ckpt : Checkpoint) (base : Rows) (marks : List Mark) (means : MeansAt image ckpt base marks) where
     base_name : (ino : ℕ) (row : Row) → map.get base ino ≡ Some row → ino ≢ ROOT → All IsByte row.name
     base_name ino row there below =
-        let has : HasName image ckpt ino row = row_has_name image ckpt base means.is_base ino row there below in
+        let has : IsNameOf image ckpt ino row.parent row.name = row_has_name image ckpt base means.is_base ino row there below in
         let at = has.has.2 in
         let own : All IsByte (dentry_at (block_at image at.at) has.has.1).name =
         part (block_at image at.at) (name_start has.has.1) (name_start has.has.1 + dentry_name_length (block_at image at.at) has.has.1) (block_bytes at.at) in
@@ -84,10 +85,10 @@ module _ (image : Image) (blocks : All IsBlock image) where
         by_row : (o : Option Row) → map.get base mark.ino ≡ o → All IsByte mark.row.name
         by_row None e =
             let named : IsNamed base (block_in (chain image ckpt) place) mark.row None = subst (IsNamed base (block_in (chain image ckpt) place) mark.row) e is.named in
-            subst (All IsByte) (sym named.1) inode_name
+            subst (All IsByte) (sym (told_alone mark.row _ _ named).2) inode_name
         by_row (Some old) e =
             let named : IsNamed base (block_in (chain image ckpt) place) mark.row (Some old) = subst (IsNamed base (block_in (chain image ckpt) place) mark.row) e is.named in
-            subst (All IsByte) (sym named.1) (base_name mark.ino old e below)
+            subst (All IsByte) (sym named.2) (base_name mark.ino old e below)
 
     pub name_bytes : (ino : ℕ) (row : Row) → map.get (rolled base marks) ino ≡ Some row → ino ≢ ROOT → All IsByte row.name
     name_bytes ino row there below = by_origin (from image ckpt base marks means ino)

@@ -14,7 +14,8 @@ use Rattle.f2_model.specs.declared.rows.Kind.TheVariants.{Regular, Directory}
 use Rattle.f2_image.specs.Images.{Image}
 use Rattle.f2_image.specs.Packs.{Checkpoint}
 use Rattle.f2_image.specs.Nodes.{block_there}
-use Rattle.f2_image.specs.Bases.{HasDentryAt, HasDentry, IsReached, root, below, HasContent, IsBase}
+use Rattle.f2_image.specs.Bases.{HasDentryAt, HasDentry, IsReached, root, below, HasContent, IsBaseRow, IsBase}
+use Rattle.f2_image.proofs.OneName.{StandsOnce, has_root, base_of_once}
 use Rattle.f2_stored.specs.Places.{Places, page_at, IsBound}
 use Rattle.f2_place_laws.proofs.Stood.{IsStood, block_is_there}
 use Rattle.f2_place_laws.proofs.Homes.{IsHome, home, inode_block, is_inode, page_is, page_some, bytes_of, names_of, block_found, seen, shown}
@@ -99,18 +100,20 @@ module _ (image : Image) (ckpt : Checkpoint) (tree : Rows) (places : Places) (is
       )
   content ino row there Directory e = (is.proper.good.pages ino row there).directory e
 
-  pub is_base : IsBase image ckpt tree
-  is_base = record {
-    rows = λ ino row there. let at = home_of ino row there in record {
-      own = at.own;
-      reached = reached ino row there;
-      inode = inode_block image ckpt tree places is ino row at;
-      is = is_inode image ckpt tree places is ino row at;
-      content = content ino row there row.kind refl;
-    };
-    root = let top = is.proper.good.root in record { row = top.0; there = top.1; parent = top.2.parent; named = top.2.name };
-    names = λ directory dentry up has.
-        let under = in_tree directory up in
-        let to = bound directory has.0 has.1 dentry under.0 under.1 has.2 in
-        record { row = to.row; there = to.there; parent = to.parent; named = to.named };
+  are_rows : (ino : ℕ) (row : Row) → map.get tree ino ≡ Some row → IsBaseRow image ckpt ino row
+  are_rows ino row there = let at = home_of ino row there in record {
+    own = at.own;
+    reached = reached ino row there;
+    inode = inode_block image ckpt tree places is ino row at;
+    is = is_inode image ckpt tree places is ino row at;
+    content = content ino row there row.kind refl;
   }
+
+  are_named : (directory : ℕ) (dentry : Dentry) → IsReached image ckpt directory → HasDentry image ckpt directory dentry → StandsOnce tree dentry.ino directory dentry.name
+  are_named directory dentry up has =
+      let under = in_tree directory up in
+      let to = bound directory has.0 has.1 dentry under.0 under.1 has.2 in
+      record { row = to.row; there = to.there; not_root = λ root. to.below (sym (home_of dentry.ino to.row to.there).own ∙ root); parent = to.parent; named = to.named }
+
+  pub is_base : IsBase image ckpt tree
+  is_base = let top = is.proper.good.root in base_of_once image ckpt tree are_rows are_named (has_root tree top.0 top.1 top.2.ino top.2.parent top.2.name)

@@ -17,6 +17,7 @@ use Rattle.f2_image.specs.Bases.{IsInode, IsDirectoryBlock, HasDentryAt, HasDent
 use Rattle.f2_image.specs.Faults as faults
 use Rattle.f2_image.specs.Faults.{IsSound, IsBadTree, BadTree, DentFault, VersionEnd, type_of_kind}
 use Rattle.f2_image.proofs.OneBase.{same_some}
+use Rattle.f2_image.proofs.OneName.{names_once}
 use Rattle.f2_image_laws.proofs.Names.{row_has_name}
 use Rattle.f2_stored.specs.Places.{Places, dentries_at, IsDentryAt, IsBound, HasNames}
 use Rattle.f2_place_laws.proofs.ChosenPlaces.{page_read, page_given, dentries_given}
@@ -99,7 +100,7 @@ module _ (image : Image) (ckpt : Checkpoint) (sound : IsSound image ckpt) (base 
     bound page place dentry stands =
         let found = shown page place dentry stands in
         let has : HasDentry image ckpt ino dentry = (page, found.slot, found.has) in
-        let to = is.names ino dentry reach has in
+        let to = names_once image ckpt base is ino dentry reach has in
         record {
           row = to.row;
           there = to.there;
@@ -127,7 +128,7 @@ module _ (image : Image) (ckpt : Checkpoint) (sound : IsSound image ckpt) (base 
         let name = row_has_name image ckpt base is child below there other in
         let has : HasDentry image ckpt ino name.dentry = subst (λ d. HasDentry image ckpt d name.dentry) parent name.has in
         let at = listed has.0 has.1 name.dentry has.2 in
-        (has.0, at.0, (name.dentry, at.1, name.is))
+        (has.0, at.0, (name.dentry, at.1, name.own))
 
     -- and only one
     once : (page place other more : ℕ) (a b : Dentry) → IsDentryAt its ino page place a → IsDentryAt its ino other more b → a.ino ≡ b.ino → (page ≡ other) × (place ≡ more)

@@ -9,7 +9,8 @@ use Rattle.f2_model.specs.declared.rows.Row.{Row}
 use Rattle.f2_model.specs.declared.rows.Kind.TheVariants.{Regular}
 use Rattle.f2_image.specs.Images.{Image}
 use Rattle.f2_image.specs.Packs.{Checkpoint}
-use Rattle.f2_image.specs.Bases.{IsReached, root, below, HasContent, StandsAs, IsBase}
+use Rattle.f2_image.specs.Bases.{IsReached, root, below, HasContent, IsBase}
+use Rattle.f2_image.proofs.OneName.{Carries, carries, root_carries}
 use Rattle.f2_recover.specs.Walking.{HasRow, IsWalked}
 use Rattle.f2_recover.specs.declared.rows.BaseRow.{BaseRow}
 use Rattle.f2_recover.specs.declared.walk.Walk.{Walk}
@@ -23,14 +24,14 @@ module _ (image : Image) (ckpt : Checkpoint) (walk : Walk) (is : IsWalked image 
   record StandBoth (ino : ℕ) : Type 0 where
     directory : ℕ
     name : List ℕ
-    in_tree : StandsAs tree ino directory name
+    in_tree : Carries tree ino directory name
     read : HasRow walk.rows ino (λ row. (row.parent ≡ directory) × (row.name ≡ name))
 
   stand_both : (ino : ℕ) → IsReached image ckpt ino → StandBoth ino
-  stand_both _ root = record { directory = ROOT; name = []; in_tree = base.root; read = record { row = is.to.root.row; there = is.to.root.there; is = (is.to.root.is.parent, is.to.root.is.named) } }
+  stand_both _ root = record { directory = ROOT; name = []; in_tree = root_carries tree base.root; read = record { row = is.to.root.row; there = is.to.root.there; is = (is.to.root.is.parent, is.to.root.is.named) } }
   stand_both _ (below directory dentry up has) =
       let row = stands_by image ckpt walk is directory has.0 has.1 dentry up has.2 in
-      record { directory = directory; name = dentry.name; in_tree = base.names directory dentry up has; read = record { row = row.row; there = row.there; is = (row.is.parent, row.is.named) } }
+      record { directory = directory; name = dentry.name; in_tree = carries tree dentry.ino directory dentry.name (base.names directory dentry up has); read = record { row = row.row; there = row.there; is = (row.is.parent, row.is.named) } }
 
   module _ (ino : ℕ) (row : Row) (own : BaseRow) (in_tree : map.get tree ino ≡ Some row) (there : map.get walk.rows ino ≡ Some own) where
     like : IsRowLike image row own

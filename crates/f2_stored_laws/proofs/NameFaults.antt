@@ -9,6 +9,7 @@ use Rattle.f2_model.specs.State.{State}
 use Rattle.f2_image.specs.Images.{Image}
 use Rattle.f2_image.specs.Faults.{HasTable, IsConflict, HasNoParent, IsDirectoryOf, BadTree, VersionEnd}
 use Rattle.f2_image.specs.Faults as faults
+use Rattle.f2_image.proofs.OneName.{names_once}
 use Rattle.f2_stored.specs.Layout.{Layout}
 use Rattle.f2_image_laws.specs.Rolled.{image_limits}
 use Rattle.f2_room_laws.specs.Fitting.{FitsBase}
@@ -28,7 +29,7 @@ module _ (lists : Contents) (layout : Layout) (state : State) (image : Image) (p
       let new = brought lists layout state image part place ino parent name brings in
       let up_here = part.alike.back.reached parent up in
       let has_here = part.alike.back.dentry parent dentry up has in
-      let old = part.keeps.base.means.is_base.names parent dentry up_here has_here in
+      let old = names_once layout.base.image layout.base.ckpt state.base part.keeps.base.means.is_base parent dentry up_here has_here in
       let not_root : dentry.ino ≢ ROOT = λ root. part.keeps.base.means.sound BadTree dentry.ino bad_tree (table, faults.too_low parent dentry up_here has_here refl (omega (arith, root))) in
       let same : dentry.ino ≡ new.at.mark.ino = (fits place new.block new.at).free dentry.ino old.row old.there not_root (old.parent ∙ sym new.under) (old.named ∙ is ∙ sym new.named) in
       none-some old.row (sym new.fresh ∙ ap (map.get state.base) (sym new.ino_is ∙ sym same) ∙ old.there)

@@ -15,6 +15,7 @@ use Rattle.f2_image.specs.Packs.{Checkpoint}
 use Rattle.f2_image.specs.Bases.{IsInode, IsReached, IsBase, inode_kind}
 use Rattle.f2_image.specs.Bases as bases
 use Rattle.f2_image.specs.Chains.{block_in, IsNamed}
+use Rattle.f2_image.proofs.OneName.{told_alone}
 use Rattle.f2_image.specs.Faults.{BringsName, IsDirectoryOf}
 use Rattle.f2_stored.specs.Layout.{Layout, chained}
 use Rattle.f2_stored_laws.proofs.LogImages.{HasPart, MarkAt, mark_at}
@@ -72,13 +73,14 @@ module _ (lists : Contents) (layout : Layout) (state : State) (image : Image) (p
       let at = mark_at lists layout state image part place brings.block brings.marked in
       let own : at.mark.ino ≡ ino = mark_ino place brings.block at ∙ brings.own in
       let fresh = no_row ino brings.fresh in
-      let named : IsNamed state.base (block_in (chained layout) place) at.mark.row None = subst (IsNamed state.base (block_in (chained layout) place) at.mark.row) (ap (map.get state.base) own ∙ fresh) at.holds.named in
+      let named_so : IsNamed state.base (block_in (chained layout) place) at.mark.row None = subst (IsNamed state.base (block_in (chained layout) place) at.mark.row) (ap (map.get state.base) own ∙ fresh) at.holds.named in
+      let named = told_alone at.mark.row _ _ named_so in
       let told = λ (block : List ℕ). take (inode_of block).name_length (inode_of block).name in
       record {
         block = brings.block;
         at = at;
         ino_is = own;
         fresh = fresh;
-        under = named.0 ∙ ap (λ block. (inode_of block).parent) (sym at.stands) ∙ brings.under;
-        named = named.1 ∙ ap told (sym at.stands) ∙ brings.named;
+        under = named.1 ∙ ap (λ block. (inode_of block).parent) (sym at.stands) ∙ brings.under;
+        named = named.2 ∙ ap told (sym at.stands) ∙ brings.named;
       }
