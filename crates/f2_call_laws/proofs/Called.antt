@@ -21,7 +21,7 @@ use Rattle.f2_room_laws.proofs.Effects.{Keeps, effect_keeps, effect_proper}
 use Rattle.f2_stored.specs.Places.{Places}
 use Rattle.f2_stored.specs.Trees.{Unwritten}
 use Rattle.f2_stored.specs.Layout.{Layout}
-use Rattle.f2_call_laws.specs.Whole.{IsKeptWhole}
+use Rattle.f2_stored.specs.Whole.{IsKeptWhole}
 use Rattle.f2_call_laws.specs.Calls.{TakesPlace}
 use Rattle.f2_call_laws.proofs.Dirtied.{LeavesRest}
 

@@ -1,12 +1,12 @@
 -- A call that makes the right things dirty keeps what a running volume keeps, where the volume's knowledge of places follows.
-use Rattle.std.proofs.Common.{◌≡◌, ◌⊎◌, inl, inr, ℕ, Bool, true, false, IsSome, refl, sym, ap, ◌∙◌, true≢false}
-use Rattle.std.specs.Prelude.{Some}
+use Rattle.std.proofs.Common.{◌≡◌, ◌≢◌, ◌⊎◌, inl, inr, ℕ, Bool, true, false, IsSome, refl, sym, ap, ◌∙◌, true≢false}
+use Rattle.std.specs.Prelude.{Some, None}
 use Rattle.std.specs.FinMap as map
 use Rattle.std.specs.FinSet as set
 use Rattle.f2_format.specs.Footer.{footer_ino}
 use Rattle.f2_format.specs.Offsets.{direct_of}
 use Rattle.f2_disk.specs.Contents.{Contents}
-use Rattle.f2_model.specs.State.{State, IsFreeIno, Inos}
+use Rattle.f2_model.specs.State.{State, IsFreeIno, Inos, InFsync}
 use Rattle.f2_model.specs.declared.bounds.Limits.{Limits}
 use Rattle.f2_model.specs.declared.rows.Row.{Row}
 use Rattle.f2_model.specs.declared.rows.Kind.TheVariants.{Regular}
@@ -24,7 +24,7 @@ use Rattle.f2_stored.specs.Ties.{LogTellsLive, told_address}
 use Rattle.f2_stored.specs.Kept.{IsSomeSlot, AreTied, IsKept, position_at}
 use Rattle.f2_event_laws.proofs.InMemory.{packs_stay, log_stays}
 use Rattle.f2_event_laws.proofs.LogPlaces.{is_address}
-use Rattle.f2_call_laws.specs.Whole.{IsOwnNid, IsKeptWhole}
+use Rattle.f2_stored.specs.Whole.{IsOwnNid, IsKeptWhole}
 use Rattle.f2_call_laws.specs.Calls.{IsNewNode, ArePlacesAfter}
 use Rattle.f2_call_laws.proofs.Dirtied.{WasThere, DirtiesRight}
 use Rattle.f2_call_laws.proofs.FreshFiles.{nothing_told}
@@ -98,6 +98,11 @@ module _ (limits : Limits) (lists : Contents) (layout : Layout) (state after : S
   nids_now ino offset node (inl was) = whole.nids ino offset node was
   nids_now ino offset node (inr new) = new.own
 
+  -- a new page has no address yet
+  owners_now : (ino page at : ℕ) (owner : ℕ × ℕ) → at ≢ 0 → map.get layout.owners at ≡ Some owner → (map.get places.pages (ino, page) ≡ Some at) ⊎ ((map.get places.pages (ino, page) ≡ None) × (at ≡ 0)) → owner ≡ (ino, page)
+  owners_now ino page at owner some owned (inl was) = whole.owners ino page at owner was some owned
+  owners_now ino page at owner some owned (inr new) = absurd (some new.1)
+
   counts_now : (ino : ℕ) → IsSome (map.get state.live ino) ⊎ IsFreeIno limits state ino → MayCount layout ino
   counts_now ino (inl old) = let row = the_one (map.get state.live ino) old in whole.counts ino row.0 row.1
   counts_now ino (inr free) = λ place small same. absurd (true≢false (sym (whole.logged place small) ∙ ap (set.contains state.logged) same ∙ free.not_logged))
@@ -109,6 +114,10 @@ module _ (limits : Limits) (lists : Contents) (layout : Layout) (state after : S
     nodes = follows.left_nodes;
     pages = follows.left_pages;
     nids = λ ino offset node there. nids_now ino offset node (follows.nodes ino offset node there);
+    owners = λ ino page at owner found some owned. owners_now ino page at owner some owned (follows.pages ino page at found);
+    unshrunk = λ seat ino progress found.
+        let was : map.get state.flights seat ≡ Some (InFsync ino progress) = sym (ap (λ f. map.get f seat) right.rest.flights) ∙ found in
+        right.shrunk ino (seat, (progress, was)) ∙ whole.unshrunk seat ino progress was;
     logged = λ place small. ap (λ (inos : Inos). set.contains inos (footer_ino (block_in (chained layout) place))) right.rest.logged ∙ whole.logged place small;
     counts = λ ino row there. counts_now ino (right.rows ino row there);
   }

@@ -12,7 +12,7 @@ use Rattle.f2_image.specs.Reached.{IsDirect}
 use Rattle.f2_laws.specs.Flights.{IsFrozen}
 use Rattle.f2_room_laws.proofs.CalledPairs.{LeavesFile}
 use Rattle.f2_stored.specs.Changes.{LeaveTheSame}
-use Rattle.f2_call_laws.specs.Whole.{IsFilePage}
+use Rattle.f2_stored.specs.Whole.{IsFilePage}
 
 -- nothing of what a crash leaves, of the calls in flight and of the log
 pub record LeavesRest (state after : State) : Type 0 where
@@ -35,6 +35,7 @@ pub record DirtiesRight (limits : Limits) (state after : State) : Type 0 where
   pub rest : LeavesRest state after
   pub frozen_rows : (ino : ℕ) → IsFrozen state.flights ino → map.get after.live ino ≡ map.get state.live ino
   pub frozen : (ino : ℕ) → IsFrozen state.flights ino → LeavesFile state after ino
+  pub shrunk : (ino : ℕ) → IsFrozen state.flights ino → set.contains after.shrunk ino ≡ set.contains state.shrunk ino
   pub rows : (ino : ℕ) (row : Row) → map.get after.live ino ≡ Some row → IsSome (map.get state.live ino) ⊎ IsFreeIno limits state ino
   pub told : (ino page offset : ℕ) (row : Row) → map.get after.live ino ≡ Some row → row.kind ≡ Regular → set.contains after.shrunk ino ≡ false → direct_of page ≡ Some offset
       → set.contains after.dirty_nodes (ino, offset) ≡ false → WasThere state ino page offset row ⊎ IsFreeIno limits state ino

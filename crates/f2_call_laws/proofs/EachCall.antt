@@ -14,7 +14,7 @@ use Rattle.f2_laws.proofs.Passed.{none_first}
 use Rattle.f2_stored.specs.Places.{Places}
 use Rattle.f2_stored.specs.Trees.{Unwritten}
 use Rattle.f2_stored.specs.Layout.{Layout}
-use Rattle.f2_call_laws.specs.Whole.{IsKeptWhole}
+use Rattle.f2_stored.specs.Whole.{IsKeptWhole}
 use Rattle.f2_call_laws.specs.Calls.{TakesPlace}
 use Rattle.f2_call_laws.proofs.Called.{leaves_rest, has_passed, tree_proper}
 use Rattle.f2_call_laws.proofs.Dirtied.{DirtiesRight}
@@ -29,7 +29,7 @@ module _ (lists : Contents) (layout : Layout) (state : State) (places : Places) 
   nothing_right : DirtiesRight limits state state
   nothing_right =
       unchanged_right limits lists layout state state places unwritten whole (leaves_rest state state.live state.dirty_pages state.dirty_nodes state.moved state.shrunk)
-      (λ ino. refl) (λ ino. record { pages = λ number. refl; nodes = λ number. refl }) (λ ino kept. kept)
+      (λ ino. refl) (λ ino. record { pages = λ number. refl; nodes = λ number. refl }) (λ ino. refl)
 
   pub call_right : (request : Request) (ino : ℕ) → TakesPlace limits state request ino → DirtiesRight limits state (called state request ino)
   call_right (Create path) ino takes = added_right lists layout state places unwritten whole ino (takes.free refl) Regular path (has_passed lists layout state places unwritten whole (Create path) ino takes).walks

@@ -28,7 +28,7 @@ use Rattle.f2_model.specs.declared.rows.Kind.TheVariants.{Regular}
 use Rattle.f2_stored.specs.Places.{Places}
 use Rattle.f2_stored.specs.Trees.{Unwritten}
 use Rattle.f2_stored.specs.Layout.{Layout}
-use Rattle.f2_call_laws.specs.Whole.{IsKeptWhole}
+use Rattle.f2_stored.specs.Whole.{IsKeptWhole}
 use Rattle.f2_call_laws.proofs.Dirtied.{DirtiesRight}
 use Rattle.f2_call_laws.proofs.Members.{has_either, has_filter, key_listed}
 use Rattle.f2_call_laws.proofs.SameWalks.{leads_there}

@@ -23,7 +23,7 @@ use Rattle.f2_room_laws.proofs.CalledPairs.{LeavesFile}
 use Rattle.f2_stored.specs.Places.{Places}
 use Rattle.f2_stored.specs.Trees.{Unwritten}
 use Rattle.f2_stored.specs.Layout.{Layout}
-use Rattle.f2_call_laws.specs.Whole.{IsFilePage, IsKeptWhole}
+use Rattle.f2_stored.specs.Whole.{IsFilePage, IsKeptWhole}
 use Rattle.f2_call_laws.proofs.Called.{leaves_rest, frozen_row}
 use Rattle.f2_call_laws.proofs.Dirtied.{DirtiesRight}
 use Rattle.f2_call_laws.proofs.OneRow.{one_row_right}
@@ -49,7 +49,7 @@ module _ (lists : Contents) (layout : Layout) (state : State) (places : Places) 
     put_right put =
         let live : Rows = map.insert state.live ino put in
         one_row_right limits lists layout state (with_rows live) places unwritten whole (leaves_rest state live state.dirty_pages state.dirty_nodes state.moved state.shrunk) ino fresh
-        (record { rows = λ at apart. get_put-other state.live ino put at apart; dirty = λ at apart. same_dirty live at; shrunk = λ at apart kept. kept })
+        (record { rows = λ at apart. get_put-other state.live ino put at apart; dirty = λ at apart. same_dirty live at; shrunk = λ at apart. refl })
         (record {
           rows = λ row there. inr free;
           told = λ page offset row there regular kept direct clean. inr free;
@@ -71,7 +71,7 @@ module _ (lists : Contents) (layout : Layout) (state : State) (places : Places) 
       let live : Rows = map.remove state.live row.ino in
       let thawed : IsFrozen state.flights row.ino → ⊥ = λ frozen. (let r = frozen_row lists layout state places unwritten whole row.ino frozen in other_kind r.0 r.1 r.2) in
       one_row_right limits lists layout state (with_rows live) places unwritten whole (leaves_rest state live state.dirty_pages state.dirty_nodes state.moved state.shrunk) row.ino thawed
-      (record { rows = λ at apart. get_taken-other state.live row.ino at apart; dirty = λ at apart. same_dirty live at; shrunk = λ at apart kept. kept })
+      (record { rows = λ at apart. get_taken-other state.live row.ino at apart; dirty = λ at apart. same_dirty live at; shrunk = λ at apart. refl })
       (record {
         rows = λ one found. absurd (gone one found);
         told = λ page offset one found regular kept direct clean. absurd (gone one found);
@@ -107,7 +107,7 @@ module _ (lists : Contents) (layout : Layout) (state : State) (places : Places) 
       (record {
         rows = λ at apart. get_taken-other state.live row.ino at apart;
         dirty = λ at apart. record { pages = λ number. other_without_ino at row.ino number state.dirty_pages apart; nodes = λ number. other_without_ino at row.ino number state.dirty_nodes apart };
-        shrunk = λ at apart kept. kept;
+        shrunk = λ at apart. refl;
       })
       (record {
         rows = λ one found. absurd (gone one found);
@@ -132,7 +132,7 @@ module _ (lists : Contents) (layout : Layout) (state : State) (places : Places) 
   put_there_right row put moved there kind pages thawed =
       let live : Rows = map.insert state.live row.ino put in
       one_row_right limits lists layout state (record state { live = live; moved = moved }) places unwritten whole (leaves_rest state live state.dirty_pages state.dirty_nodes moved state.shrunk) row.ino thawed
-      (record { rows = λ at apart. get_put-other state.live row.ino put at apart; dirty = λ at apart. record { pages = λ number. refl; nodes = λ number. refl }; shrunk = λ at apart kept. kept })
+      (record { rows = λ at apart. get_put-other state.live row.ino put at apart; dirty = λ at apart. record { pages = λ number. refl; nodes = λ number. refl }; shrunk = λ at apart. refl })
       (record {
         rows = λ one found. inl (ap is_some there);
         told = λ page offset one found regular kept direct clean. inl (record {

@@ -16,14 +16,14 @@ use Rattle.f2_room_laws.proofs.CalledPairs.{LeavesFile}
 use Rattle.f2_stored.specs.Places.{Places}
 use Rattle.f2_stored.specs.Trees.{Unwritten}
 use Rattle.f2_stored.specs.Layout.{Layout}
-use Rattle.f2_call_laws.specs.Whole.{IsFilePage, IsKeptWhole}
+use Rattle.f2_stored.specs.Whole.{IsFilePage, IsKeptWhole}
 use Rattle.f2_call_laws.proofs.Dirtied.{LeavesRest, WasThere, DirtiesRight}
 
 -- all other rows stay, with what is dirty of them
 pub record LeavesOthers (state after : State) (place : ℕ) : Type 0 where
   pub rows : (ino : ℕ) → ino ≢ place → map.get after.live ino ≡ map.get state.live ino
   pub dirty : (ino : ℕ) → ino ≢ place → LeavesFile state after ino
-  pub shrunk : (ino : ℕ) → ino ≢ place → set.contains after.shrunk ino ≡ false → set.contains state.shrunk ino ≡ false
+  pub shrunk : (ino : ℕ) → ino ≢ place → set.contains after.shrunk ino ≡ set.contains state.shrunk ino
 
 -- what is right of that one
 pub record RightAt (limits : Limits) (state after : State) (place : ℕ) : Type 0 where
@@ -36,17 +36,18 @@ pub record RightAt (limits : Limits) (state after : State) (place : ℕ) : Type 
 
 module _ (limits : Limits) (lists : Contents) (layout : Layout) (state after : State) (places : Places) (unwritten : Unwritten) (whole : IsKeptWhole lists layout state places unwritten) (rest : LeavesRest state after) where
   -- where nothing is changed
-  pub unchanged_right : ((ino : ℕ) → map.get after.live ino ≡ map.get state.live ino) → ((ino : ℕ) → LeavesFile state after ino) → ((ino : ℕ) → set.contains after.shrunk ino ≡ false → set.contains state.shrunk ino ≡ false) → DirtiesRight limits state after
+  pub unchanged_right : ((ino : ℕ) → map.get after.live ino ≡ map.get state.live ino) → ((ino : ℕ) → LeavesFile state after ino) → ((ino : ℕ) → set.contains after.shrunk ino ≡ set.contains state.shrunk ino) → DirtiesRight limits state after
   unchanged_right rows dirty shrunk = record {
     rest = rest;
     frozen_rows = λ ino frozen. rows ino;
     frozen = λ ino frozen. dirty ino;
+    shrunk = λ ino frozen. shrunk ino;
     rows = λ ino row there. inl (ap is_some (sym (rows ino) ∙ there));
     told = λ ino page offset row there regular kept direct clean. inl (record {
       before = row;
       there = sym (rows ino) ∙ there;
       regular = regular;
-      whole = shrunk ino kept;
+      whole = sym (shrunk ino) ∙ kept;
       clean = sym ((dirty ino).nodes offset) ∙ clean;
       stays = λ has. has;
     });
@@ -72,7 +73,7 @@ module _ (limits : Limits) (lists : Contents) (layout : Layout) (state after : S
       before = row;
       there = sym (others.rows ino other) ∙ there;
       regular = regular;
-      whole = others.shrunk ino other kept;
+      whole = sym (others.shrunk ino other) ∙ kept;
       clean = sym ((others.dirty ino other).nodes offset) ∙ clean;
       stays = λ has. has;
     })
@@ -98,6 +99,7 @@ module _ (limits : Limits) (lists : Contents) (layout : Layout) (state after : S
       rest = rest;
       frozen_rows = λ ino frozen. others.rows ino (apart ino frozen);
       frozen = λ ino frozen. others.dirty ino (apart ino frozen);
+      shrunk = λ ino frozen. others.shrunk ino (apart ino frozen);
       rows = λ ino. rows ino (same_or_other ino place);
       told = λ ino. told ino (same_or_other ino place);
       direct = λ ino. direct ino (same_or_other ino place);

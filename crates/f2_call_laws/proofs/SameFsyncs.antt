@@ -13,7 +13,7 @@ use Rattle.f2_stored.specs.Trees.{Unwritten}
 use Rattle.f2_stored.specs.Layout.{Layout}
 use Rattle.f2_stored.specs.Kept.{IsBlockFor, IsDrawnFor, IsSlotOf, AreFlushed, PartStands, FsyncStands, position_at}
 use Rattle.f2_event_laws.proofs.Standing.{flushed_with_slot}
-use Rattle.f2_call_laws.specs.Whole.{IsKeptWhole}
+use Rattle.f2_stored.specs.Whole.{IsKeptWhole}
 use Rattle.f2_call_laws.specs.Calls.{ArePlacesAfter}
 use Rattle.f2_call_laws.proofs.Dirtied.{DirtiesRight}
 use Rattle.f2_call_laws.proofs.SamePages.{page_stood, same_page}

@@ -15,7 +15,7 @@ use Rattle.f2_stored.specs.Places.{NodeAt, Places, page_at}
 use Rattle.f2_stored.specs.Trees.{Unwritten}
 use Rattle.f2_stored.specs.Layout.{Layout}
 use Rattle.f2_stored.specs.Kept.{IsElsewhere}
-use Rattle.f2_call_laws.specs.Whole.{IsKeptWhole}
+use Rattle.f2_stored.specs.Whole.{IsKeptWhole}
 use Rattle.f2_call_laws.specs.Calls.{IsNewNode, ArePlacesAfter}
 
 module _ (lists : Contents) (layout : Layout) (state after : State) (places now : Places) (unwritten left : Unwritten) (whole : IsKeptWhole lists layout state places unwritten)

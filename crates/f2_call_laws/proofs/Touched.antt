@@ -1,12 +1,12 @@
 -- A call that changes the pages of a file makes the right pages and nodes dirty.
-use Rattle.std.proofs.Common.{◌≡◌, ◌⊎◌, inl, inr, ℕ, Bool, true, false, not, ◌||◌, List, ◌++◌, IsSome, is_some, refl, sym, ap, ◌∙◌, subst, true≢false}
+use Rattle.std.proofs.Common.{◌≡◌, ◌≢◌, ◌⊎◌, inl, inr, ℕ, Bool, true, false, not, ◌||◌, List, ◌++◌, IsSome, is_some, refl, sym, ap, ◌∙◌, subst, true≢false}
 use Rattle.std.specs.Prelude.{Some, if◌then◌else◌}
 use Rattle.std.specs.List.{filter, list_any}
 use Rattle.std.specs.Ordering.{nat_cmp, eq_by_cmp}
 use Rattle.std.specs.Cmp.{nat_cmp_total, unsigned_tied}
 use Rattle.std.specs.FinMap as map
 use Rattle.std.specs.FinSet as set
-use Rattle.std.proofs.lemmas.Bool.{eq-eqb}
+use Rattle.std.proofs.lemmas.Bool.{eq-eqb, ne_eqb}
 use Rattle.f2_disk.specs.Contents.{Contents}
 use Rattle.f2_format.specs.Offsets.{direct_of}
 use Rattle.f2_image.specs.Reached.{IsDirect}
@@ -23,7 +23,7 @@ use Rattle.f2_laws.proofs.Walks.{some_same}
 use Rattle.f2_stored.specs.Places.{Places}
 use Rattle.f2_stored.specs.Trees.{Unwritten}
 use Rattle.f2_stored.specs.Layout.{Layout}
-use Rattle.f2_call_laws.specs.Whole.{IsFilePage, IsKeptWhole}
+use Rattle.f2_stored.specs.Whole.{IsFilePage, IsKeptWhole}
 use Rattle.f2_call_laws.proofs.Called.{leaves_rest}
 use Rattle.f2_call_laws.proofs.Dirtied.{WasThere, DirtiesRight}
 use Rattle.f2_call_laws.proofs.Members.{has_any, any_has, has_filter, filtered, has_either, direct_is, page_of_direct, key_listed}
@@ -77,6 +77,13 @@ module _ (lists : Contents) (layout : Layout) (state : State) (places : Places) 
       by_test : (b : Bool) → set.contains (if b then set.insert state.shrunk old.ino else state.shrunk) ino ≡ false → set.contains state.shrunk ino ≡ false
       by_test true e = right (eq_by_cmp nat_cmp ino old.ino) (set.contains state.shrunk ino) (sym (set.contains-insert nat_cmp_total state.shrunk old.ino ino) ∙ e)
       by_test false e = e
+
+  shrunk_other : (ino : ℕ) → ino ≢ old.ino → set.contains after.shrunk ino ≡ set.contains state.shrunk ino
+  shrunk_other ino apart = by_test (list_any (λ node. not (has_direct new node)) lost)
+    where
+      by_test : (b : Bool) → set.contains (if b then set.insert state.shrunk old.ino else state.shrunk) ino ≡ set.contains state.shrunk ino
+      by_test true = set.contains-insert nat_cmp_total state.shrunk old.ino ino ∙ ap (λ b. b || set.contains state.shrunk ino) (unsigned_tied ino old.ino ∙ ne_eqb ino old.ino apart)
+      by_test false = refl
 
   clean_before : (offset : ℕ) → (Has offset lost → ⊥) → set.contains after.dirty_nodes (old.ino, offset) ≡ false → set.contains state.dirty_nodes (old.ino, offset) ≡ false
   clean_before offset none clean = by_test (set.contains state.dirty_nodes (old.ino, offset)) refl
@@ -155,7 +162,7 @@ module _ (lists : Contents) (layout : Layout) (state : State) (places : Places) 
           pages = λ number. other_with at old.ino number touched (without_pairs old.ino state.dirty_pages removed) apart ∙ other_without at old.ino number removed state.dirty_pages apart;
           nodes = λ number. other_with at old.ino number dirty_nodes (without_pairs old.ino state.dirty_nodes lost) apart ∙ other_without at old.ino number lost state.dirty_nodes apart;
         };
-        shrunk = λ at apart kept. shrunk_before at kept;
+        shrunk = shrunk_other;
       })
       (record {
         rows = λ row found. inl (ap is_some there);

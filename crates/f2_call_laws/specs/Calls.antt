@@ -17,7 +17,7 @@ use Rattle.f2_live_laws.specs.Changing.{ChangesInMemory}
 use Rattle.f2_stored.specs.Places.{NodeAt, Places, dentries_at, HasNames, IsNamedAbove, IsPagePlaced, HasItsPages}
 use Rattle.f2_stored.specs.Trees.{Unwritten}
 use Rattle.f2_stored.specs.Layout.{Layout}
-use Rattle.f2_call_laws.specs.Whole.{IsOwnNid, IsKeptWhole}
+use Rattle.f2_stored.specs.Whole.{IsOwnNid, IsKeptWhole}
 
 -- a call of one event takes effect: nothing refuses it, no fsync holds its file, there is room for the tree after it, and a new row gets a
 -- free ino

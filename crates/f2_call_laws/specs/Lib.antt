@@ -1,3 +1,2 @@
 -- Calls between the events of a running volume, and the flusher.
-pub mod Whole
 pub mod Calls

@@ -1,8 +1,8 @@
 //! Calls between the events of a running volume: what each of them keeps.
 //!
-//! No program runs this crate. What a running volume keeps is told in `f2_stored`, in `specs/Kept`; here, in
-//! `specs/Whole`, stands what it keeps besides so that calls find it, and in `specs/Calls` how a call changes what a
-//! volume knows of places. Each function below has an empty body, and its contract is a law.
+//! No program runs this crate. What a running volume keeps is told in `f2_stored`, in `specs/Kept` and `specs/Whole`;
+//! here, in `specs/Calls`, stands how a call changes what a volume knows of places. Each function below has an empty
+//! body, and its contract is a law.
 #![tactic(auto)]
 
 mod calls;

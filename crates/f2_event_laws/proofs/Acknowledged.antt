@@ -16,7 +16,7 @@ use Rattle.f2_stored.specs.Kept.{IsSomeSlot, HasMarkAt, FsyncStands, AreTied, po
 use Rattle.f2_change_laws.proofs.Counts.{more_count}
 use Rattle.f2_change_laws.proofs.Flushes.{flushes_settle, settled_marks_may_be_acknowledged}
 use Rattle.f2_place_laws.proofs.LiveReads.{live_flushed}
-use Rattle.f2_event_laws.specs.Acks.{IsKeptBy, AcknowledgementsKeep}
+use Rattle.f2_event_laws.specs.Acks.{AcknowledgementsKeep}
 use Rattle.f2_event_laws.proofs.Maps.{taken_other, found_left}
 use Rattle.f2_event_laws.proofs.InMemory.{packs_stay, log_stays}
 use Rattle.f2_event_laws.proofs.Flights.{OthersStay, slot_stays, slot_was, no_slot}
@@ -117,23 +117,23 @@ module _ (lists : Contents) (layout : Layout) (state : State) (places : Places) 
         mark = λ has. record { small = has.small; counted = has.counted; own = has.own };
       } (kept.fsyncs other file next found)
 
-  pub acknowledgement_stands : IsKeptBy (flushed lists) after places unwritten
-  acknowledgement_stands = record {
-    layout = layout_now;
-    kept = record {
-      packs = packs_stay (flushed lists) layout_now between after in_memory acknowledged.0;
-      log = log_stays (flushed lists) layout_now between after in_memory acknowledged.1;
-      none_pending = kept.none_pending;
-      proper = kept.proper;
-      live = live_flushed lists layout.base.ckpt.geom state.live places unwritten kept.live;
-      told = record { told = kept.told.told };
-      tied = tied;
-      fsyncs = λ other file next found. fsyncs other file next (found_left state.flights seat other (InFsync file next) found).1;
-    };
+  pub acknowledged_kept : IsKept (flushed lists) (record layout { settled = max layout.settled (progress.position + 1) }) (acknowledges state seat ino progress).after places unwritten
+  acknowledged_kept = record {
+    packs = packs_stay (flushed lists) layout_now between after in_memory acknowledged.0;
+    log = log_stays (flushed lists) layout_now between after in_memory acknowledged.1;
+    none_pending = kept.none_pending;
+    proper = kept.proper;
+    live = live_flushed lists layout.base.ckpt.geom state.live places unwritten kept.live;
+    told = record { told = kept.told.told };
+    tied = tied;
+    fsyncs = λ other file next found. fsyncs other file next (found_left state.flights seat other (InFsync file next) found).1;
   }
     where
       in_memory : LeaveTheSame between after
       in_memory = record { base = refl; marks = refl; acknowledged = refl; pending = refl; format = refl; version = refl; next_format = refl }
 
 pub acknowledgements : AcknowledgementsKeep
-acknowledgements lists layout state places unwritten seat ino progress kept there part none gap = acknowledgement_stands lists layout state places unwritten seat ino progress kept there part none gap
+acknowledgements lists layout state places unwritten seat ino progress kept there part none gap = record {
+  layout = record layout { settled = max layout.settled (progress.position + 1) };
+  kept = acknowledged_kept lists layout state places unwritten seat ino progress kept there part none gap;
+}

@@ -1,7 +1,8 @@
 -- The slots of fsyncs after an event of one seat.
-use Rattle.std.proofs.Common.{◌≡◌, ◌≢◌, ◌⊎◌, inl, inr, ℕ, sym, ap, ◌∙◌}
+use Rattle.std.proofs.Common.{◌≡◌, ◌≢◌, ◌⊎◌, inl, inr, ℕ, false, sym, ap, ◌∙◌}
 use Rattle.std.specs.Prelude.{Some, None}
 use Rattle.std.specs.FinMap as map
+use Rattle.std.specs.FinSet as set
 use Rattle.f2_model.specs.State.{State, Slot, Progress, InFsync}
 use Rattle.f2_stored.specs.Kept.{IsSomeSlot}
 use Rattle.f2_event_laws.proofs.Maps.{found_put}
@@ -59,3 +60,11 @@ was_in_flight state after seat ino progress now there flights other file next fo
     by_case : ((other ≡ seat) × (InFsync file next ≡ InFsync ino now)) ⊎ ((other ≢ seat) × (map.get state.flights other ≡ Some (InFsync file next))) → (before : Progress) × (map.get state.flights other ≡ Some (InFsync file before))
     by_case (inl own) = (progress, ap (map.get state.flights) own.0 ∙ there ∙ ap (λ i. Some (InFsync i progress)) (sym (fsync_file file ino next now own.1)))
     by_case (inr elder) = (next, elder.1)
+
+-- where a seat's fsync goes on, the files in fsync are those that were
+pub unshrunk_still : (state after : State) (seat ino : ℕ) (progress now : Progress) → map.get state.flights seat ≡ Some (InFsync ino progress) → after.flights ≡ map.insert state.flights seat (InFsync ino now)
+    → ((one file : ℕ) (next : Progress) → map.get state.flights one ≡ Some (InFsync file next) → set.contains state.shrunk file ≡ false)
+    → (other file : ℕ) (next : Progress) → map.get after.flights other ≡ Some (InFsync file next) → set.contains state.shrunk file ≡ false
+unshrunk_still state after seat ino progress now there flights unshrunk other file next found =
+    let was = was_in_flight state after seat ino progress now there flights other file next found in
+    unshrunk other file was.0 was.1

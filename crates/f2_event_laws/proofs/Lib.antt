@@ -1,4 +1,4 @@
--- Proofs of the laws of an fsync's events.
+-- Proofs of the laws of an fsync's events and the flusher's.
 pub mod Maps
 pub mod Sets
 pub mod InMemory
@@ -9,6 +9,7 @@ pub mod FlushedPages
 pub mod PageDisks
 pub mod WrittenPages
 pub mod LogPlaces
+pub mod MovedNodes
 pub mod Drawn
 pub mod SubmittedSlots
 pub mod Gaps
@@ -16,3 +17,15 @@ pub mod Acknowledged
 pub mod DrawnSlots
 pub mod DrawnNodes
 pub mod DrawnMarks
+pub mod Reach
+pub mod WholePages
+pub mod Ahead
+pub mod WholeDrawn
+pub mod WholeNodes
+pub mod WholeMarks
+pub mod WholeAcks
+pub mod FlushedNodes
+pub mod Rest
+pub mod Begun
+pub mod Faulted
+pub mod JoinedOwners

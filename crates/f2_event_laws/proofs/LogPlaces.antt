@@ -1,14 +1,18 @@
 -- The positions of a log by their places: their addresses, and a log after the block of one of them was written.
-use Rattle.std.proofs.Common.{◌≡◌, ◌≢◌, ℕ, ◌<◌, length, get_or, set, sym, ap, ◌∙◌, arith}
+use Rattle.std.proofs.Common.{◌≡◌, ◌≢◌, ◌⊎◌, inl, inr, ℕ, ◌+◌, ◌<◌, List, length, take, get_or, set, sym, ap, ◌∙◌, arith}
+use Rattle.std.specs.Prelude.{Option, Some, None, MatchOption}
 use Rattle.std.specs.List.{Contains}
+use Rattle.std.proofs.lemmas.Bool.{cases_eq}
 use Rattle.std.proofs.lemmas.List.{length-map, length-set, get_or-map, get_or-set_same, get_or-set_other, map-set, set-get_or}
 use Rattle.std.proofs.lemmas.List.Elements.{Contains-get_or}
 use Rattle.f2_disk.specs.Contents.{Contents}
-use Rattle.f2_image.specs.Chains.{Logged}
-use Rattle.f2_stored.specs.Layout.{Fate, Position, Layout, chained}
+use Rattle.f2_model.specs.State.{Slot, Progress}
+use Rattle.f2_image.specs.Chains.{Logged, marked_places}
+use Rattle.f2_stored.specs.Layout.{Fate, Written, Position, Layout, chained}
 use Rattle.f2_stored.specs.Logs.{HoldsLog, IsLogAddress, log_addresses}
 use Rattle.f2_stored.specs.Changes.{no_position, with_fate}
-use Rattle.f2_stored.specs.Kept.{position_at}
+use Rattle.f2_stored.specs.Marks.{marks_within}
+use Rattle.f2_stored.specs.Kept.{HasMarkAt, position_at}
 use Rattle.f2_change_laws.proofs.Each.{each_at}
 use Rattle.f2_change_laws.proofs.Members.{contains_map, differ_before, differ_last}
 
@@ -58,3 +62,27 @@ module _ (layout : Layout) (place : ℕ) (fate : Fate) (small : place < length l
       map-set (λ (p : Position). p.logged) layout.log place (record (position_at layout place) { fate = fate })
       ∙ ap (set (chained layout) place) (sym (get_or-map (λ (p : Position). p.logged) layout.log place no_position no_position.logged small))
       ∙ set-get_or (chained layout) place no_position.logged
+
+-- once a block was written, what was written is so still, and marks stay where they are
+module _ (layout : Layout) (place : ℕ) (small : place < length layout.log) where
+  written_still : (k : ℕ) → (position_at layout k).fate ≡ Written → (position_at (with_fate layout place Written) k).fate ≡ Written
+  written_still k is = by_case (cases_eq k place)
+    where
+      by_case : (k ≡ place) ⊎ (k ≢ place) → (position_at (with_fate layout place Written) k).fate ≡ Written
+      by_case (inl same) = ap (λ n. (position_at (with_fate layout place Written) n).fate) same ∙ ap (λ (p : Position). p.fate) (position_here layout place Written small)
+      by_case (inr other) = ap (λ (p : Position). p.fate) (position_other layout place Written small k other) ∙ is
+
+  pub written_count : (count : ℕ) → marks_within (with_fate layout place Written) count ≡ marks_within layout count
+  written_count count = ap (λ (chain : List Logged). length (marked_places (take count chain))) (same_chain layout place Written small)
+
+  pub written_mark : (next : Progress) → HasMarkAt layout next → HasMarkAt (with_fate layout place Written) next
+  written_mark next mark = record {
+    small = (let inside = mark.small in omega (arith, inside, as_long layout place Written small));
+    counted = (let counted = mark.counted in omega (arith, counted, written_count (next.position + 1)));
+    own = by_slot next.slot mark.own;
+  }
+    where
+      by_slot : (s : Option Slot) → MatchOption s ((position_at layout next.position).fate ≡ Written) (λ slot. slot.position ≡ next.position)
+          → MatchOption s ((position_at (with_fate layout place Written) next.position).fate ≡ Written) (λ slot. slot.position ≡ next.position)
+      by_slot None is = written_still next.position is
+      by_slot (Some one) is = is

@@ -1,5 +1,5 @@
 -- The block of an fsync's slot that was written at the slot's position.
-use Rattle.std.proofs.Common.{◌≡◌, ◌≢◌, ◌⊎◌, inl, inr, ℕ, ◌+◌, ◌<◌, false, List, [], ◌∷◌, length, take, refl, sym, ap, ◌∙◌, subst, subst₂, arith, true≢false}
+use Rattle.std.proofs.Common.{◌≡◌, ◌≢◌, ◌⊎◌, inl, inr, ℕ, ◌+◌, ◌<◌, false, List, [], ◌∷◌, length, refl, sym, ap, ◌∙◌, subst, subst₂, arith, true≢false}
 use Rattle.std.specs.Prelude.{Option, Some, None, MatchOption}
 use Rattle.std.proofs.lemmas.Bool.{cases_eq}
 use Rattle.std.specs.FinMap as map
@@ -8,34 +8,30 @@ use Rattle.f2_format.specs.Offsets.{direct_slot}
 use Rattle.f2_disk.specs.Contents.{Contents, IsWritten, last_of}
 use Rattle.f2_model.specs.State.{State, Part, InPages, InNodes, Marked, Drawn, DrawnNode, DrawnMark, Slot, Progress, InFsync}
 use Rattle.f2_model.specs.Goes.{with_progress}
-use Rattle.f2_model.specs.declared.rows.Row.{Row}
 use Rattle.f2_image.specs.Nodes.{node, word_of}
-use Rattle.f2_image.specs.Chains.{Logged, marked_places, last_before, or_below, base_direct}
-use Rattle.f2_stored.specs.Places.{NodeAt, Places, nid_of, nid_at, IsNodeBlock, IsInodeOf}
+use Rattle.f2_image.specs.Chains.{Logged, last_before, or_below, base_direct}
+use Rattle.f2_stored.specs.Places.{NodeAt, Places, nid_of, nid_at, IsNodeBlock}
 use Rattle.f2_stored.specs.Trees.{Unwritten}
-use Rattle.f2_stored.specs.Layout.{Position, Open, Written, Layout, chained}
+use Rattle.f2_stored.specs.Layout.{Position, Open, Written, Layout}
 use Rattle.f2_stored.specs.Ties.{LogTellsLive, told_address}
 use Rattle.f2_stored.specs.Changes.{LeaveTheSame, with_fate}
 use Rattle.f2_stored.specs.Kept.{IsElsewhere, IsBlockFor, IsDrawnFor, IsSlotOf, IsSomeSlot, AreFlushed, HasMarkAt, PartStands, FsyncStands, AreTied, position_at, IsKept}
 use Rattle.f2_change_laws.proofs.Submits.{submits_keep}
 use Rattle.f2_place_laws.specs.Living.{with_node, node_written}
 use Rattle.f2_place_laws.proofs.LiveNodes.{live_with_node}
-use Rattle.f2_place_laws.proofs.Pairs.{pair, same_or_other, put_here, put_other}
 use Rattle.f2_place_laws.proofs.WrittenBlocks.{written_other}
 use Rattle.f2_event_laws.specs.Nodes.{offset_of, SubmittedSlotsKeep}
 use Rattle.f2_event_laws.proofs.Maps as maps
 use Rattle.f2_event_laws.proofs.InMemory.{packs_stay, log_stays}
 use Rattle.f2_event_laws.proofs.Flights.{OthersStay, slot_stays, slot_was, no_slot, own_place, was_in_flight, fsync_file, fsync_progress}
 use Rattle.f2_event_laws.proofs.Standing.{still_stands, slot_of}
-use Rattle.f2_event_laws.proofs.LogPlaces.{is_address, addresses_apart, next_apart, as_long, position_here, position_other, same_chain}
+use Rattle.f2_event_laws.proofs.LogPlaces.{is_address, addresses_apart, next_apart, as_long, position_here, position_other, same_chain, written_count, written_mark}
+use Rattle.f2_event_laws.proofs.MovedNodes.{elsewhere, block_for}
 use Rattle.f2_event_laws.proofs.Sets.{still_in_without}
 use Rattle.f2_event_laws.proofs.Drawn.{block_of_drawn, drawn_is_clean}
 
 written_not_open : ¬ (Written ≡ Open)
 written_not_open is = cc
-
-same_node : (a b : NodeAt) → Some a ≡ Some b → a ≡ b
-same_node a b e = cc
 
 module _ (lists new : Contents) (layout : Layout) (state : State) (places : Places) (unwritten : Unwritten) (seat ino : ℕ) (progress : Progress) (slot : Slot)
     (kept : IsKept lists layout state places unwritten) (there : map.get state.flights seat ≡ Some (InFsync ino progress)) (has : progress.slot ≡ Some slot) where
@@ -69,44 +65,14 @@ module _ (lists new : Contents) (layout : Layout) (state : State) (places : Plac
   own_slot : IsSlotOf layout state places ino slot
   own_slot = slot_of lists layout state places ino progress slot has stood
 
-  block_for : IsBlockFor state places ino offset one.block
-  block_for = block_of_drawn state places ino slot.drawn one.block own_slot.drawn
+  own_block : IsBlockFor state places ino offset one.block
+  own_block = block_of_drawn state places ino slot.drawn one.block own_slot.drawn
 
   clean_node : set.contains state.dirty_nodes (ino, offset) ≡ false
   clean_node = drawn_is_clean layout state places unwritten kept.tied ino slot.drawn one.block own_slot.drawn
 
   free : IsElsewhere places one.at
   free = kept.tied.open_apart slot.position own_slot.small own_slot.is_open
-
-  -- nids stay
-  same_nid : (file low : ℕ) → nid_at places_now file low ≡ nid_at places file low
-  same_nid file low = by_case (same_or_other (file, low) (ino, offset))
-    where
-      by_case : (pair file low ≡ pair ino offset) ⊎ (pair file low ≢ pair ino offset) → nid_at places_now file low ≡ nid_at places file low
-      by_case (inl same) = ap (λ q. nid_of (map.get places_now.nodes q)) same ∙ ap nid_of (put_here places.nodes (ino, offset) node_now) ∙ sym (ap (λ q. nid_of (map.get places.nodes q)) same)
-      by_case (inr other) = ap nid_of (put_other places.nodes (ino, offset) node_now (file, low) other)
-
-  node_block : (file low : ℕ) (n : NodeAt) (block : List ℕ) → IsNodeBlock places file low n block → IsNodeBlock places_now file low n block
-  node_block file low n block is = record {
-    footer_nid = is.footer_nid;
-    footer_ino = is.footer_ino;
-    footer_offset = is.footer_offset;
-    lower = λ at under small below. is.lower at under small below ∙ sym (same_nid file under);
-    pages = is.pages;
-  }
-
-  inode_of_row : (row : Row) (block : List ℕ) → IsInodeOf places row block → IsInodeOf places_now row block
-  inode_of_row row block is = record { kind = is.kind; own = is.own; size = is.size; addresses = is.addresses }
-
-  -- what is elsewhere than the tree, and isn't the slot's address, is elsewhere still
-  elsewhere : (k : ℕ) → one.at ≢ k → IsElsewhere places k → IsElsewhere places_now k
-  elsewhere k apart away = record { nodes = λ file low n found. by_case file low n found (same_or_other (file, low) (ino, offset)); pages = away.pages }
-    where
-      by_case : (file low : ℕ) (n : NodeAt) → map.get places_now.nodes (file, low) ≡ Some n → (pair file low ≡ pair ino offset) ⊎ (pair file low ≢ pair ino offset) → n.at ≢ k
-      by_case file low n found (inl same) =
-          let is : Some n ≡ Some node_now = sym found ∙ ap (map.get places_now.nodes) same ∙ put_here places.nodes (ino, offset) node_now in
-          λ e. apart (sym (ap (λ (m : NodeAt). m.at) (same_node n node_now is)) ∙ e)
-      by_case file low n found (inr elder) = away.nodes file low n (sym (put_other places.nodes (ino, offset) node_now (file, low) elder) ∙ found)
 
   told : LogTellsLive layout_now after places_now
   told = record {
@@ -143,7 +109,7 @@ module _ (lists new : Contents) (layout : Layout) (state : State) (places : Plac
       let same : position_at layout_now place ≡ position_at layout place = position_other layout slot.position Written own_slot.small place other in
       let inside : place < length layout.log = omega (arith, small, as_long layout slot.position Written own_slot.small) in
       subst (λ (p : Position). IsElsewhere places_now p.logged.at) (sym same)
-      (elsewhere (position_at layout place).logged.at (addresses_apart lists layout kept.log.log slot.position place own_slot.small inside (λ e. other (sym e)))
+      (elsewhere places ino offset one.at (position_at layout place).logged.at (addresses_apart lists layout kept.log.log slot.position place own_slot.small inside (λ e. other (sym e)))
       (kept.tied.open_apart place inside (ap (λ (p : Position). p.fate) (sym same) ∙ is_open)))
 
   tied : AreTied layout_now after places_now left
@@ -157,35 +123,13 @@ module _ (lists new : Contents) (layout : Layout) (state : State) (places : Plac
     one_slot = λ place a b. kept.tied.one_slot place (slot_was state after seat others place a (has_none place a)) (slot_was state after seat others place b (has_none place b));
     one_file = λ one other file a b of_one of_other. kept.tied.one_file one other file (was one file a of_one).0 (was other file b of_other).0 (was one file a of_one).1 (was other file b of_other).1;
     open_apart = open_apart;
-    next_apart = λ some. elsewhere layout.next (next_apart lists layout kept.log.log slot.position own_slot.small) (kept.tied.next_apart some);
+    next_apart = λ some. elsewhere places ino offset one.at layout.next (next_apart lists layout kept.log.log slot.position own_slot.small) (kept.tied.next_apart some);
   }
-
-  -- marks stay where they are
-  same_count : (count : ℕ) → length (marked_places (take count (chained layout_now))) ≡ length (marked_places (take count (chained layout)))
-  same_count count = ap (λ (chain : List Logged). length (marked_places (take count chain))) (same_chain layout slot.position Written own_slot.small)
-
-  written_still : (place : ℕ) → (position_at layout place).fate ≡ Written → (position_at layout_now place).fate ≡ Written
-  written_still place is = by_case (cases_eq place slot.position)
-    where
-      by_case : (place ≡ slot.position) ⊎ (place ≢ slot.position) → (position_at layout_now place).fate ≡ Written
-      by_case (inl same) = ap (λ k. (position_at layout_now k).fate) same ∙ ap (λ (p : Position). p.fate) (position_here layout slot.position Written own_slot.small)
-      by_case (inr other) = ap (λ (p : Position). p.fate) (position_other layout slot.position Written own_slot.small place other) ∙ is
-
-  mark_still : (next : Progress) → HasMarkAt layout next → HasMarkAt layout_now next
-  mark_still next mark = record {
-    small = (let small = mark.small in omega (arith, small, as_long layout slot.position Written own_slot.small));
-    counted = (let counted = mark.counted in omega (arith, counted, same_count (next.position + 1)));
-    own = by_slot next.slot mark.own;
-  }
-    where
-      by_slot : (s : Option Slot) → MatchOption s ((position_at layout next.position).fate ≡ Written) (λ slot. slot.position ≡ next.position) → MatchOption s ((position_at layout_now next.position).fate ≡ Written) (λ slot. slot.position ≡ next.position)
-      by_slot None is = written_still next.position is
-      by_slot (Some one) is = is
 
   own_mark : HasMarkAt layout progress → HasMarkAt layout_now progress_now
   own_mark mark = record {
     small = (let small = mark.small in omega (arith, small, as_long layout slot.position Written own_slot.small));
-    counted = (let counted = mark.counted in omega (arith, counted, same_count (progress.position + 1)));
+    counted = (let counted = mark.counted in omega (arith, counted, written_count layout slot.position own_slot.small (progress.position + 1)));
     own = ap (λ k. (position_at layout_now k).fate) (sym at_mark) ∙ ap (λ (p : Position). p.fate) (position_here layout slot.position Written own_slot.small);
   }
     where
@@ -211,12 +155,7 @@ module _ (lists new : Contents) (layout : Layout) (state : State) (places : Plac
 
     -- a block for a node of another file is still one
     other_block : (file low : ℕ) (block : List ℕ) → file ≢ ino → IsBlockFor state places file low block → IsBlockFor after places_now file low block
-    other_block file low block apart is = record {
-      node = is.node;
-      there = put_other places.nodes (ino, offset) node_now (file, low) (λ same. apart (ap (λ (q : ℕ × ℕ). q.0) same)) ∙ is.there;
-      own = node_block file low is.node block is.own;
-      inode = λ first row found. inode_of_row row block (is.inode first row found);
-    }
+    other_block file low block apart is = block_for places ino offset one.at state after refl file low block (λ same. apart (ap (λ (q : ℕ × ℕ). q.0) same)) is
 
     other_drawn : (file : ℕ) (drawn : Drawn) (block : List ℕ) → file ≢ ino → IsDrawnFor state places file drawn block → IsDrawnFor after places_now file drawn block
     other_drawn file (DrawnNode low) block apart is = (is.0, is.1, other_block file low block apart is.2)
@@ -245,13 +184,13 @@ module _ (lists new : Contents) (layout : Layout) (state : State) (places : Plac
           live = refl;
           slot = λ its is stands. other_slot other file next its elder.0 elder.1 is stands;
           flushed = flushed_still file;
-          mark = mark_still next;
+          mark = written_mark layout slot.position own_slot.small next;
         } (kept.fsyncs other file next elder.1)
 
 pub submitted_slots : SubmittedSlotsKeep
 submitted_slots lists new layout state places unwritten seat ino progress slot kept there has within block written =
     let own = own_slot lists new layout state places unwritten seat ino progress slot kept there has in
-    let node_block_for = block_for lists new layout state places unwritten seat ino progress slot kept there has in
+    let node_block_for = own_block lists new layout state places unwritten seat ino progress slot kept there has in
     let now : Layout = with_fate layout slot.position Written in
     let disk = (submits_keep lists new layout state slot.position kept.packs kept.log kept.none_pending own.small own.is_open within block).0 written in
     record {

@@ -10,3 +10,4 @@ pub mod Changes
 pub mod Ties
 pub mod Stored
 pub mod Kept
+pub mod Whole

@@ -5,3 +5,4 @@ pub mod FreeNodes
 pub mod FreePages
 pub mod KeptThirds
 pub mod FoundThirds
+pub mod OwnedThirds

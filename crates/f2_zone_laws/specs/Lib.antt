@@ -3,3 +3,4 @@ pub mod Covering
 pub mod Keeping
 pub mod Free
 pub mod Kept
+pub mod Owned
