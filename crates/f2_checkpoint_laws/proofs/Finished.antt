@@ -19,11 +19,11 @@ use Rattle.f2_checkpoint_laws.specs.Done.{all_written, IsBeforeLastFlush, IsRead
 use Rattle.f2_checkpoint_laws.proofs.Nobody.{nobody}
 
 -- nothing is dirty
-none_dirty : (pair : ℕ × ℕ) → ¬ (set.contains {R = pair_cmp} set.empty pair ≡ true)
+pub none_dirty : (pair : ℕ × ℕ) → ¬ (set.contains {R = pair_cmp} set.empty pair ≡ true)
 none_dirty pair dirty = true≢false (sym dirty ∙ set.contains-empty pair_cmp pair)
 
 -- and no place is below none
-none_there : (place : ℕ) → ¬ (place < 0)
+pub none_there : (place : ℕ) → ¬ (place < 0)
 none_there place small = omega (arith, small)
 
 module _ (lists : Contents) (layout : Layout) (state : State) (places : Places) (unwritten : Unwritten) (seat : ℕ) (plan : Plan) (pending : Reference) (nids : Nids) (owners : Owners)

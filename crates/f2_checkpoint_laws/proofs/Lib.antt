@@ -5,3 +5,7 @@ pub mod NoLogs
 pub mod Pendings
 pub mod Nobody
 pub mod Finished
+pub mod Numbered
+pub mod WholeAfter
+pub mod TailsWhole
+pub mod Gone

@@ -35,7 +35,7 @@ use Rattle.f2_checkpoint_laws.proofs.NoLogs.{none_later, no_chain}
 use Rattle.f2_checkpoint_laws.proofs.Tailed.{off_tail, at_tail, as_long, flushed_within, flushed_one}
 
 -- what a disk keeps in either case
-packs_of : (lists : Contents) (layout : Layout) (state : State) → IsStored lists layout state → KeepsPacks lists layout state
+pub packs_of : (lists : Contents) (layout : Layout) (state : State) → IsStored lists layout state → KeepsPacks lists layout state
 packs_of lists layout state (running packs log) = packs
 packs_of lists layout state (mounting packs image) = packs
 
@@ -47,10 +47,10 @@ module _ (lists : Contents) (layout : Layout) (state : State) (places : Places) 
     high : (k : ℕ) → NAT_START ≤ k → k ≢ tail_address ckpt.side
     high k above e = omega (arith, above, e, tail_low ckpt.side)
 
-    node_off : (k : ℕ) → IsTrue (is_in_node layout.base.ckpt.geom k) → k ≢ tail_address ckpt.side
+    pub node_off : (k : ℕ) → IsTrue (is_in_node layout.base.ckpt.geom k) → k ≢ tail_address ckpt.side
     node_off k inside = let range = node_range layout.base.ckpt.geom k inside in high k (omega (arith, range.0))
 
-    data_off : (k : ℕ) → IsTrue (is_in_data layout.base.ckpt.geom k) → k ≢ tail_address ckpt.side
+    pub data_off : (k : ℕ) → IsTrue (is_in_data layout.base.ckpt.geom k) → k ≢ tail_address ckpt.side
     data_off k inside = let range = data_range layout.base.ckpt.geom k inside in high k (omega (arith, range))
 
     -- nothing of the live tree stands where the tail does
@@ -60,7 +60,7 @@ module _ (lists : Contents) (layout : Layout) (state : State) (places : Places) 
       pages = λ ino page at there. off_tail lists (tail_address ckpt.side) tail at (data_off at (is.live.pages ino page at there (out.pages ino page at there)).in_zone);
     }
 
-    stands : IsTreeAt the_image ckpt state.live places
+    pub stands : IsTreeAt the_image ckpt state.live places
     stands =
         let live = subst (λ (e : ImageGeometry). IsLiveAt lists e state.live places unwritten) (sym ready.geom) is.live in
         stands_written lists state.live places unwritten the_image ckpt live out gives ready.table
@@ -109,7 +109,7 @@ module _ (lists : Contents) (layout : Layout) (state : State) (places : Places) 
       version = ready.version;
     }
 
-    has_tail : block_at the_image (tail_address ckpt.side) ≡ tail
+    pub has_tail : block_at the_image (tail_address ckpt.side) ≡ tail
     has_tail = at_tail lists (tail_address ckpt.side) tail ready.within
 
     pub may_remain : (new : Contents) → Wrote (flushed lists) (tail_address ckpt.side) tail new

@@ -2,3 +2,5 @@
 pub mod Writing
 pub mod Pending
 pub mod Done
+pub mod Ended
+pub mod Going

@@ -20,3 +20,4 @@ pub mod OldWays
 pub mod Takes
 pub mod Exists
 pub mod Unmarked
+pub mod Mounted

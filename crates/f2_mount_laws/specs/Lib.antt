@@ -3,3 +3,4 @@ pub mod Taken
 pub mod Living
 pub mod Writing
 pub mod Existing
+pub mod Ending

@@ -8,10 +8,12 @@
 //! stand in `specs/`.
 #![tactic(auto)]
 
+mod ending;
 mod existing;
 mod living;
 mod writing;
 
+pub use ending::mounts_end_whole;
 pub use existing::trees_are_taken_over;
 pub use living::{rolled_trees_of_mounts_are_proper, taken_over_trees_are_live};
 pub use writing::{free_addresses_are_elsewhere, taken_over_trees_may_be_written};
