@@ -41,7 +41,7 @@ module _ {D : Type 0} (contents : D → Option Contents) (meter : D → Meter) w
   advances_by old mid history entries event answer start from looks more same stands step =
       let before : mid.history ≡ old.history = ap (λ (volume : Seen D). volume.history) looks.rest in
       let now = looks.stands from stands in
-      let count : from.entries + length entries ≡ length history.entries = ap (λ n. n + length entries) now.stands.entries ∙ sym (length-append mid.history.entries entries) ∙ ap length (sym more) in
+      let count : from.entries + length entries ≡ length history.entries = ap (λ n. n + length entries) now.stands.at.entries ∙ sym (length-append mid.history.entries entries) ∙ ap length (sym more) in
       record {
         turn = turn_with answer entries [] from;
         step = step;
@@ -57,7 +57,7 @@ module _ {D : Type 0} (contents : D → Option Contents) (meter : D → Meter) w
       → (StandsIn (contents old.disk) (record old { history = history }) from → AdvancesFrom contents meter (record old { history = history }) new event answer start from)
       → StandsIn (contents old.disk) old from → AdvancesFrom contents meter old new event answer start from
   advances_with_room old new history event answer start from entries choices then stands =
-      let here = then (record { lists = stands.lists; holds = stands.holds; stands = stands_counted stands.lists old history from from.entries (stands.stands.entries ∙ ap length (sym entries)) stands.stands }) in
+      let here = then (record { lists = stands.lists; holds = stands.holds; stands = stands_counted stands.lists old history from from.entries (stands.stands.at.entries ∙ ap length (sym entries)) stands.stands }) in
       record {
         turn = here.turn;
         step = here.step;

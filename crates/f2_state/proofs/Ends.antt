@@ -76,13 +76,13 @@ module _ {D : Type 0} (told : Option Contents) (volume : Seen D) (from : State) 
       → ((most : ℕ) (tree : Rows) (row : Row) → IsGoodTree most tree → IsShapeOf volume.files.shapes tree → map.get tree ino ≡ Some row → row.kind ≡ Directory → Names names ≡ names_told tree (Ok row))
       → Names names ≡ answer from.live (ListNames path)
   names_here ino names unrefused led named =
-      let end = list_end (image_limits volume.geometry) SIZE_LIMIT from.live good path ino (led SIZE_LIMIT from.live good stands.stands.known.shapes) unrefused in
-      named SIZE_LIMIT from.live end.row good stands.stands.known.shapes end.there end.kind_is ∙ ap (names_told from.live) (sym end.leads)
+      let end = list_end (image_limits volume.geometry) SIZE_LIMIT from.live good path ino (led SIZE_LIMIT from.live good stands.stands.at.known.shapes) unrefused in
+      named SIZE_LIMIT from.live end.row good stands.stands.at.known.shapes end.there end.kind_is ∙ ap (names_told from.live) (sym end.leads)
 
   pub stopped_here : (refused : Reply) → ((most : ℕ) (tree : Rows) → IsGoodTree most tree → IsShapeOf volume.files.shapes tree → Err refused ≡ ino_at (walk tree path))
       → (refused ≡ answer from.live (ListNames path)) × ((off len : ℕ) → refused ≡ answer from.live (Read path off len))
   stopped_here refused led =
-      let is = led SIZE_LIMIT from.live good stands.stands.known.shapes in
+      let is = led SIZE_LIMIT from.live good stands.stands.at.known.shapes in
       (names_refused from.live (walk from.live path) refused is, λ off len. bytes_refused off len (walk from.live path) refused is)
 
   -- what a read tells
@@ -92,6 +92,6 @@ module _ {D : Type 0} (told : Option Contents) (volume : Seen D) (from : State) 
       → HasOfFile told volume ino (λ row. bytes ≡ bytes_between row.pages off end)
       → Bytes bytes ≡ answer from.live (Read path off len)
   bytes_here ino off len end bytes unrefused led ends has =
-      let file = read_end (image_limits volume.geometry) SIZE_LIMIT from.live good path ino (led SIZE_LIMIT from.live good stands.stands.known.shapes) off len unrefused in
-      let end_is = ends from.live file.row stands.stands.known.shapes file.there (good.pages ino file.row file.there).size in
+      let file = read_end (image_limits volume.geometry) SIZE_LIMIT from.live good path ino (led SIZE_LIMIT from.live good stands.stands.at.known.shapes) off len unrefused in
+      let end_is = ends from.live file.row stands.stands.at.known.shapes file.there (good.pages ino file.row file.there).size in
       ap Bytes (has from file.row stands quiet file.there file.kind_is ∙ ap (bytes_between file.row.pages off) end_is) ∙ ap (bytes_told off len) (sym file.leads)

@@ -9,3 +9,7 @@ pub mod PartBytes
 pub mod Counted
 pub mod Serving
 pub mod Advancing
+pub mod Alone
+pub mod Flushed
+pub mod Going
+pub mod OneFlush

@@ -19,7 +19,7 @@ use Rattle.f2_pages.specs.Kept.{Kept, Pages, IsCurrent, IsRead}
 use Rattle.f2_stored.specs.Places.{Places, IsPageBlock}
 use Rattle.f2_state.specs.Contents.{IsDirtyPage, IsCleanPage}
 use Rattle.f2_state.specs.Seen.{Seen}
-use Rattle.f2_state.specs.Standing.{StandsOn, StandsIn, StandsSomewhere, is_between}
+use Rattle.f2_state.specs.Standing.{StandsAt, StandsOn, StandsIn, StandsSomewhere, is_between}
 
 some_same : {A : Type 0} (a b : A) → Some a ≡ Some b → a ≡ b
 some_same a b is = ap (λ o. unwrap_or o a) is
@@ -73,9 +73,9 @@ module _ {D : Type 0} (lists : Contents) (volume : Seen D) (from : State) (stand
       let same : dirty.row ≡ row = some_same dirty.row row (sym dirty.there ∙ there) in
       sym (ap (λ o. unwrap_or o zero_page) (ap (λ (one : Row). map.get one.pages page) (sym same) ∙ dirty.has))
 
-  has_place : is_between from ≡ true → row.kind ≡ Regular → IsSome (map.get row.pages page) → IsSome (map.get stands.places.pages (ino, page))
+  has_place : is_between from ≡ true → row.kind ≡ Regular → IsSome (map.get row.pages page) → IsSome (map.get stands.at.places.pages (ino, page))
   has_place quiet file has =
-      subst (λ i. IsSome (map.get stands.places.pages (i, page))) ((stands.kept quiet).proper.good.keyed ino row there) ((stands.kept quiet).live.rows ino row there file page has)
+      subst (λ i. IsSome (map.get stands.at.places.pages (i, page))) ((stands.at.kept quiet).kept.proper.good.keyed ino row there) ((stands.at.kept quiet).kept.live.rows ino row there file page has)
 
   module _ (file : row.kind ≡ Regular) (clean : map.get volume.pages.dirty (ino, page) ≡ None) (quiet : is_between from ≡ true) where
     -- a page that is there and isn't kept as dirty isn't dirty
@@ -84,8 +84,8 @@ module _ {D : Type 0} (lists : Contents) (volume : Seen D) (from : State) (stand
     not_dirty bytes has true is =
         none_some (map.get volume.pages.dirty (ino, page)) bytes clean ((stands.contents.dirty ino page bytes).1 (record { dirty = is; row = row; there = there; file = file; has = has }))
 
-    is_here : (bytes : List ℕ) → map.get row.pages page ≡ Some bytes → set.contains stands.unwritten.pages (ino, page) ≡ false
-    is_here bytes has = (stands.kept quiet).tied.pages ino page row there file ∙ not_dirty bytes has (set.contains from.dirty_pages (ino, page)) refl
+    is_here : (bytes : List ℕ) → map.get row.pages page ≡ Some bytes → set.contains stands.at.unwritten.pages (ino, page) ≡ false
+    is_here bytes has = (stands.at.kept quiet).kept.tied.pages ino page row there file ∙ not_dirty bytes has (set.contains from.dirty_pages (ino, page)) refl
 
     -- a page with an address has the content of the block there
     pub block_content : (at : ℕ) → address_in page (map.get volume.files.shapes ino) ≡ Some at → last_of (list_at lists at) ≡ page_of row.pages page
@@ -93,60 +93,66 @@ module _ {D : Type 0} (lists : Contents) (volume : Seen D) (from : State) (stand
       where
         by_page : (o : Option (List ℕ)) → map.get row.pages page ≡ o → last_of (list_at lists at) ≡ page_of row.pages page
         by_page None none =
-            absurd (true≢false (sym (has_of page at (map.get volume.files.shapes ino) (map.get from.live ino) row (stands.known.shapes.each ino) there file known) ∙ ap is_some none))
+            absurd (true≢false (sym (has_of page at (map.get volume.files.shapes ino) (map.get from.live ino) row (stands.at.known.shapes.each ino) there file known) ∙ ap is_some none))
         by_page (Some bytes) has =
-            let here = (stands.kept quiet).live.pages ino page at (sym (stands.placed ino page) ∙ known) (is_here bytes has) in
-            sym (last_at lists at) ∙ sym (ap (λ o. unwrap_or o zero_page) (own_block stands.places row page (last_of (contents_at lists at)) file (here.own row there)))
+            let here = (stands.at.kept quiet).kept.live.pages ino page at (sym (stands.at.placed ino page) ∙ known) (is_here bytes has) in
+            sym (last_at lists at) ∙ sym (ap (λ o. unwrap_or o zero_page) (own_block stands.at.places row page (last_of (contents_at lists at)) file (here.own row there)))
 
     -- a page without an address reads as zeros
     pub zero_content : unwrap_or (address_in page (map.get volume.files.shapes ino)) 0 ≡ 0 → zero_page ≡ page_of row.pages page
     zero_content unknown = by_page (map.get row.pages page) refl
       where
-        by_address : (bytes : List ℕ) → map.get row.pages page ≡ Some bytes → (o : Option ℕ) → map.get stands.places.pages (ino, page) ≡ o → IsSome o → unwrap_or o 0 ≡ 0 → zero_page ≡ page_of row.pages page
+        by_address : (bytes : List ℕ) → map.get row.pages page ≡ Some bytes → (o : Option ℕ) → map.get stands.at.places.pages (ino, page) ≡ o → IsSome o → unwrap_or o 0 ≡ 0 → zero_page ≡ page_of row.pages page
         by_address bytes has None placed some is = absurd (true≢false (sym some))
         by_address bytes has (Some at) placed some is =
-            let here = (stands.kept quiet).live.pages ino page at placed (is_here bytes has) in
-            absurd (nowhere stands.layout.base.ckpt.geom (subst (λ a. IsTrue (is_in_data stands.layout.base.ckpt.geom a)) is here.in_zone))
+            let here = (stands.at.kept quiet).kept.live.pages ino page at placed (is_here bytes has) in
+            absurd (nowhere stands.at.layout.base.ckpt.geom (subst (λ a. IsTrue (is_in_data stands.at.layout.base.ckpt.geom a)) is here.in_zone))
 
         by_page : (o : Option (List ℕ)) → map.get row.pages page ≡ o → zero_page ≡ page_of row.pages page
         by_page None none = sym (ap (λ o. unwrap_or o zero_page) none)
         by_page (Some bytes) has =
-            by_address bytes has (map.get stands.places.pages (ino, page)) refl
+            by_address bytes has (map.get stands.at.places.pages (ino, page)) refl
             (has_place quiet file (subst IsSome (sym has) refl))
-            (ap (λ o. unwrap_or o 0) (sym (stands.placed ino page)) ∙ unknown)
+            (ap (λ o. unwrap_or o 0) (sym (stands.at.placed ino page)) ∙ unknown)
 
   -- and so does one past those that a file can have
   pub past_content : row.kind ≡ Regular → is_between from ≡ true → page_limit ≤ page → zero_page ≡ page_of row.pages page
   past_content file quiet past = by_page (map.get row.pages page) refl
     where
-      by_place : (o : Option ℕ) → map.get stands.places.pages (ino, page) ≡ o → IsSome o → ⊥
+      by_place : (o : Option ℕ) → map.get stands.at.places.pages (ino, page) ≡ o → IsSome o → ⊥
       by_place None placed some = true≢false (sym some)
-      by_place (Some at) placed some = (let within = ((stands.kept quiet).live.laid.pages ino page at placed).within in omega (arith, past, within))
+      by_place (Some at) placed some = (let within = ((stands.at.kept quiet).kept.live.laid.pages ino page at placed).within in omega (arith, past, within))
 
       by_page : (o : Option (List ℕ)) → map.get row.pages page ≡ o → zero_page ≡ page_of row.pages page
       by_page None none = sym (ap (λ o. unwrap_or o zero_page) none)
-      by_page (Some bytes) has = absurd (by_place (map.get stands.places.pages (ino, page)) refl (has_place quiet file (subst IsSome (sym has) refl)))
+      by_page (Some bytes) has = absurd (by_place (map.get stands.at.places.pages (ino, page)) refl (has_place quiet file (subst IsSome (sym has) refl)))
 
 -- a volume stands where it stood, with other clean pages that are those of the disk
+pub at_with : {D : Type 0} (lists : Contents) (old : Seen D) (disk : D) (pages : Kept) (state : State) → StandsAt lists old state → StandsAt lists (record old { disk = disk; pages = pages }) state
+at_with lists old disk pages state at = record {
+  layout = at.layout;
+  places = at.places;
+  unwritten = at.unwritten;
+  roomy = at.roomy;
+  stored = at.stored;
+  kept = at.kept;
+  sizes = at.sizes;
+  known = at.known;
+  placed = at.placed;
+  mode = at.mode;
+  entries = at.entries;
+}
+
 pub stands_with : {D : Type 0} (lists : Contents) (old : Seen D) (disk : D) (clean : Pages) (state : State) → StandsOn lists old state
     → ((ino page : ℕ) (bytes : List ℕ) → map.get clean (ino, page) ≡ Some bytes → IsCleanPage lists old.files ino page bytes)
     → StandsOn lists (record old { disk = disk; pages = record old.pages { clean = clean } }) state
 stands_with lists old disk clean state stands current = record {
-  layout = stands.layout;
-  places = stands.places;
-  unwritten = stands.unwritten;
-  stored = stands.stored;
-  kept = stands.kept;
-  sizes = stands.sizes;
-  known = stands.known;
-  placed = stands.placed;
+  at = at_with lists old disk (record old.pages { clean = clean }) state stands.at;
   contents = record { dirty = stands.contents.dirty; clean = current };
-  mode = stands.mode;
-  entries = stands.entries;
 }
 
 -- a clean page that a volume keeps is current where it knows the page to be
-pub is_current : {D : Type 0} (told : Option Contents) (volume : Seen D) (ino page at : ℕ) → IfSome told (λ lists. StandsSomewhere lists volume)
+pub is_current : {D : Type 0} (told : Option Contents) (volume : Seen D) (ino page at : ℕ) → StandsSomewhere told volume
     → address_in page (map.get volume.files.shapes ino) ≡ Some at → IsCurrent volume.pages (ino, page) told at
 is_current None volume ino page at somewhere known = tt
 is_current (Some lists) volume ino page at somewhere known = by_clean (map.get volume.pages.clean (ino, page)) refl
@@ -154,8 +160,8 @@ is_current (Some lists) volume ino page at somewhere known = by_clean (map.get v
     by_clean : (o : Option (List ℕ)) → map.get volume.pages.clean (ino, page) ≡ o → IfSome o (λ content. content ≡ last_of (list_at lists at))
     by_clean None none = tt
     by_clean (Some bytes) kept =
-        let clean = somewhere.1.contents.clean ino page bytes kept in
-        clean.current ∙ ap (λ a. last_of (list_at lists a)) (some_same clean.at at (sym clean.address ∙ known))
+        let clean = (somewhere.contents refl).clean ino page bytes kept in
+        clean.current ∙ ap (λ a. last_of (list_at somewhere.lists a)) (some_same clean.at at (sym clean.address ∙ known)) ∙ ap (λ held. last_of (list_at held at)) (sym somewhere.holds)
 
 -- what a read of a page gives where it isn't dirty: the page's content
 pub content_read : {D : Type 0} (told : Option Contents) (volume : Seen D) (from : State) (ino page at : ℕ) (row : Row) (bytes : List ℕ) → StandsIn told volume from → is_between from ≡ true

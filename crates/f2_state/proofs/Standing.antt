@@ -32,16 +32,16 @@ between state seat is =
 module _ {D : Type 0} (told : Option Contents) (volume : Seen D) (from : State) (stands : StandsIn told volume from) where
   -- the live tree is proper for the image that the volume knows
   pub proper_at : is_between from ≡ true → IsProperTree (image_limits volume.geometry) from.live
-  proper_at quiet = subst_sizes (stands.stands.kept quiet).proper
+  proper_at quiet = subst_sizes (stands.stands.at.kept quiet).kept.proper
     where
-      subst_sizes : IsProperTree (image_limits stands.stands.layout.base.ckpt.geom) from.live → IsProperTree (image_limits volume.geometry) from.live
-      subst_sizes proper = subst (λ geom. IsProperTree (image_limits geom) from.live) stands.stands.sizes proper
+      subst_sizes : IsProperTree (image_limits stands.stands.at.layout.base.ckpt.geom) from.live → IsProperTree (image_limits volume.geometry) from.live
+      subst_sizes proper = subst (λ geom. IsProperTree (image_limits geom) from.live) stands.stands.at.sizes proper
 
   -- what a test of mode, history and calls in flight told
   pub told_by : (seat : ℕ) (found : Option Reply)
       → ((state : State) → volume.mode ≡ state.mode → state.entries ≡ length volume.history.entries → IsKnownOf volume.files state → MatchOption found (IsHeard state seat) (IsUnheard state seat))
       → MatchOption found (IsHeard from seat) (IsUnheard from seat)
-  told_by seat found tells = tells from stands.stands.mode stands.stands.entries stands.stands.known
+  told_by seat found tells = tells from stands.stands.at.mode stands.stands.at.entries stands.stands.at.known
 
   pub heard_by : (seat : ℕ) (found : Option Reply)
       → ((state : State) → volume.mode ≡ state.mode → state.entries ≡ length volume.history.entries → IsKnownOf volume.files state → MatchOption found (IsHeard state seat) (IsUnheard state seat))
@@ -54,9 +54,9 @@ module _ {D : Type 0} (told : Option Contents) (volume : Seen D) (from : State) 
         → ((most : ℕ) (tree : Rows) → IsGoodTree most tree → IsShapeOf volume.files.shapes tree → found ≡ refusal limits tree request)
         → found ≡ refusal (image_limits volume.geometry) from.live request
     refusal_here limits found granted tells =
-        tells SIZE_LIMIT from.live (proper_at (between from seat heard)).good stands.stands.known.shapes ∙ ap (λ l. refusal l from.live request) granted
+        tells SIZE_LIMIT from.live (proper_at (between from seat heard)).good stands.stands.at.known.shapes ∙ ap (λ l. refusal l from.live request) granted
 
     pub freezing_here : (found : Option ℕ)
         → ((most : ℕ) (state : State) → IsGoodTree most state.live → IsKnownOf volume.files state → found ≡ freezing state request)
         → found ≡ freezing from request
-    freezing_here found tells = tells SIZE_LIMIT from (proper_at (between from seat heard)).good stands.stands.known
+    freezing_here found tells = tells SIZE_LIMIT from (proper_at (between from seat heard)).good stands.stands.at.known

@@ -13,8 +13,8 @@ use Rattle.f2_pages.specs.Kept.{Kept, Pages, IsRead, MayAdd}
 use Rattle.f2_state.specs.Contents.{IsCleanPage}
 use Rattle.f2_state.specs.Looks.{OnlyLooks}
 use Rattle.f2_state.specs.Seen.{Seen}
-use Rattle.f2_state.specs.Standing.{StandsOn, StandsSomewhere, StandsStill, IsVolume}
-use Rattle.f2_state.proofs.PageReads.{stands_with, block_read}
+use Rattle.f2_state.specs.Standing.{StandsAt, StandsOn, StandsIn, StandsSomewhere, StandsStill, IsVolume}
+use Rattle.f2_state.proofs.PageReads.{at_with, stands_with, block_read}
 
 -- each clean content is that of its page's block
 abbrev pub AreCurrent : {D : Type 0} → Option Contents → Seen D → Pages → Type 0
@@ -42,6 +42,25 @@ read_current told old ino page at content new known other read adds lists state 
       written = other;
       current = is ∙ here;
     }
+
+-- a volume that stands in a state stands somewhere, and the other way round where its disk tells
+pub somewhere_in : {D : Type 0} (told : Option Contents) (volume : Seen D) (state : State) → StandsIn told volume state → StandsSomewhere told volume
+somewhere_in told volume state stands = record {
+  lists = stands.lists;
+  state = state;
+  at = stands.stands.at;
+  holds = subst (λ o. IfSome o (λ held. held ≡ stands.lists)) (sym stands.holds) refl;
+  contents = λ tells. stands.stands.contents;
+}
+
+pub in_somewhere : {D : Type 0} (lists : Contents) (volume : Seen D) (is : StandsSomewhere (Some lists) volume) → StandsIn (Some lists) volume is.state
+in_somewhere lists volume is = record { lists = is.lists; holds = ap Some is.holds; stands = record { at = is.at; contents = is.contents refl } }
+
+somewhere_still : {D : Type 0} (told now : Option Contents) (old new : Seen D) → now ≡ told → StandsSomewhere told old → ((lists : Contents) (state : State) → StandsAt lists old state → StandsAt lists new state)
+    → StandsStill told now old new → StandsSomewhere now new
+somewhere_still None now old new same is at still =
+    subst (λ o. StandsSomewhere o new) (sym same) (record { lists = is.lists; state = is.state; at = at is.lists is.state is.at; holds = tt; contents = λ tells. absurd (cc) })
+somewhere_still (Some lists) now old new same is at still = somewhere_in now new is.state (still is.state (in_somewhere lists old is))
 
 module _ {D : Type 0} (contents : D → Option Contents) (meter : D → Meter) where
   pub looks_by : (old new : Seen D) → new ≡ record old { disk = new.disk; pages = record old.pages { clean = new.pages.clean } } → OnlyReads contents meter old.disk new.disk
@@ -86,15 +105,6 @@ module _ {D : Type 0} (contents : D → Option Contents) (meter : D → Meter) w
     within = λ ino page at known.
         subst (λ (geom : ImageGeometry). at < geom.blocks) (sym (ap (λ (v : Seen D). v.geometry) looks.rest))
         (is.within ino page at (sym (ap (λ (v : Seen D). address_in page (map.get v.files.shapes ino)) looks.rest) ∙ known));
-    somewhere = somewhere (contents old.disk) (contents new.disk) (sym looks.reads.kept) is.somewhere looks.stands;
+    somewhere = somewhere_still (contents old.disk) (contents new.disk) old new looks.reads.kept is.somewhere
+        (λ lists state at. subst (λ volume. StandsAt lists volume state) (sym looks.rest) (at_with lists old new.disk (record old.pages { clean = new.pages.clean }) state at)) looks.stands;
   }
-    where
-      somewhere : (told now : Option Contents) → told ≡ now → IfSome told (λ lists. StandsSomewhere lists old) → StandsStill told now old new → IfSome now (λ lists. StandsSomewhere lists new)
-      somewhere told None same is still = tt
-      somewhere None (Some lists) same is still = absurd (cc)
-      somewhere (Some before) (Some lists) same is still =
-          let now = still is.0 (record { lists = before; holds = refl; stands = is.1 }) in
-          (is.0, subst (λ l. StandsOn l new is.0) (some_same now.lists lists now.holds) now.stands)
-        where
-          some_same : (a b : Contents) → Some b ≡ Some a → a ≡ b
-          some_same a b e = cc

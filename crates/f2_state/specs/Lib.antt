@@ -6,3 +6,4 @@ pub mod Standing
 pub mod Following
 pub mod Barred
 pub mod Looks
+pub mod Flushing

@@ -14,6 +14,7 @@
 
 mod barring;
 mod entries;
+mod flushes;
 mod listing;
 mod looks;
 mod pages;
