@@ -9,3 +9,4 @@ pub mod Numbered
 pub mod WholeAfter
 pub mod TailsWhole
 pub mod Gone
+pub mod Closed

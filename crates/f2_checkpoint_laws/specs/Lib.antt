@@ -4,3 +4,4 @@ pub mod Pending
 pub mod Done
 pub mod Ended
 pub mod Going
+pub mod Faults
