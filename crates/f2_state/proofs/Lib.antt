@@ -13,3 +13,4 @@ pub mod Alone
 pub mod Flushed
 pub mod Going
 pub mod OneFlush
+pub mod Idle

@@ -7,3 +7,4 @@ pub mod Following
 pub mod Barred
 pub mod Looks
 pub mod Flushing
+pub mod Idling
