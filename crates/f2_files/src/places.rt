@@ -27,12 +27,13 @@ impl Files {
         self.shapes.get(ino)?.pages.get(page)
     }
 
-    /// Sets the address of a page. Only a page that is new takes memory; where it is refused nothing changes.
+    /// Sets the address of a page. Only a page that is new takes memory (`only_new`); where it is refused nothing changes.
     pub fn set_address(&mut self, ino: u32, page: u32, at: u32) -> Result<(), AllocError>
         ensures ok { OnOk result ((row : Shape) → map.get self.old.shapes ino ≡ Some row → self.new ≡ record self.old { shapes = map.insert self.old.shapes ino (record row { pages = map.insert row.pages page at }) }) }
         ensures missing { map.get self.old.shapes ino ≡ None → self.new ≡ self.old }
         ensures keeps { OnOk result (IsSome (address_in page (map.get self.old.shapes ino)) → (tree : Rows) → IsShapeOf self.old.shapes tree → IsShapeOf self.new.shapes tree) }
         ensures err { OnErr result (self.new ≡ self.old) }
+        ensures only_new { OnErr result (address_in page (map.get self.old.shapes ino) ≡ None) }
     {
         self.shapes.set_page(ino, page, at)
     }

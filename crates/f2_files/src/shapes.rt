@@ -4,7 +4,7 @@ ghost use Rattle.std.specs.FinMap as map;
 ghost use Rattle.std.specs.Option.{option_copied};
 ghost use Rattle.f2_model.specs.Content.{end_of, raised_size};
 ghost use Rattle.f2_spans.specs.Spans.{MOST_SIZE};
-ghost use Rattle.f2_files.specs.Shape.{first_pages, nid_in, with_all_pages, without_all_pages};
+ghost use Rattle.f2_files.specs.Shape.{address_in, first_pages, nid_in, with_all_pages, without_all_pages};
 ghost use Rattle.f2_files.specs.declared.shapes.Shape.{Shape};
 
 use crate::addresses::Addresses;
@@ -115,11 +115,13 @@ impl Shapes {
         }
     }
 
-    /// Sets the address of a page of a row that is there. Where memory is refused nothing changes.
+    /// Sets the address of a page of a row that is there. Only a page that is new takes memory; where it is refused nothing
+    /// changes.
     pub(crate) fn set_page(&mut self, ino: u32, page: u32, at: u32) -> Result<(), AllocError>
         ensures there { OnOk result ((row : Shape) → map.get self.old ino ≡ Some row → self.new ≡ map.insert self.old ino (record row { pages = map.insert row.pages page at })) }
         ensures missing { map.get self.old ino ≡ None → self.new ≡ self.old }
         ensures err { OnErr result (self.new ≡ self.old) }
+        ensures only_new { OnErr result (address_in page (map.get self.old ino) ≡ None) }
     {
         match self.rows.get_mut(&ino) {
             Some(row) => row.pages.set(page, at),

@@ -3,6 +3,7 @@ use Rattle.std.specs.Ordering.{nat_cmp}
 use Rattle.std.specs.FinMap as map
 use Rattle.f2_laws.proofs.Walks.{some_same, some_none}
 use Rattle.f2_model.proofs.MapViews.{lookup-seen, seen-insert}
+use Rattle.f2_files.specs.Shape.{address_in}
 use Rattle.f2_files.specs.declared.shapes.Shape.{Shape}
 use Rattle.f2_files.proofs.Changes.{put_same}
 use Rattle.f2_files.proofs.Results.{ok_map, err_map}
@@ -40,5 +41,14 @@ returns-clause-err c = elim c.match-get_mut.branch [
       rw (w.result-is, w.self-inside-is) (err_map w.set.result (λ e. put
       ∙ ap (λ (p : map.FinMap nat_cmp ℕ). map.insert c.args.self.now c.args.ino (record now { pages = p })) e
       ∙ put_same c.args.self.now c.args.ino now (sym was)) w.set.ensures.err))
+  | in-None w ↦ (rw w.result-is tt)
+]
+
+pub returns-clause-only_new : goal.returns-clause-only_new
+returns-clause-only_new c = elim c.match-get_mut.branch [
+  | in-Some w ↦ (
+      let now : Shape = w.in-Some.row.now in
+      let was : Some now ≡ map.get c.args.self.now c.args.ino = w.in-Some.ensures.value ∙ lookup-seen _ _ c.self.view_is c.args.ino in
+      rw w.result-is (err_map w.set.result (λ none. ap (address_in c.args.page) (sym was) ∙ none) w.set.ensures.only_new))
   | in-None w ↦ (rw w.result-is tt)
 ]
