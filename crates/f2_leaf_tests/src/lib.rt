@@ -6,19 +6,9 @@
 #[cfg(test)]
 mod bitset;
 #[cfg(test)]
-mod blocks;
-#[cfg(test)]
-mod call_size;
-#[cfg(test)]
-mod dir;
-#[cfg(test)]
 mod disk;
 #[cfg(test)]
-mod files;
-#[cfg(test)]
 mod gate;
-#[cfg(test)]
-mod held;
 #[cfg(test)]
 mod index;
 #[cfg(test)]
